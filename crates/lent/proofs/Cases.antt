@@ -1,0 +1,25 @@
+-- Going by the outcome of a test. Assumes nothing.
+use mathlib.Core.Path.{_≡_, refl, sym, _∙_}
+use mathlib.Core.Bool.{Bool, true, false, cond}
+use Prim.Native.Nat.{ℕ, _≤_, _<_}
+use lib.Dec.{leb, eqb}
+use borrow.Author.Tests.{leb-true, leb-false, eqb-true, eqb-false}
+
+-- what holds of both answers holds of the answer that a test picks
+pub cond-case : {A : Type 0} (P : A → Type 0) (t : Bool) {x y : A} → (t ≡ true → P x) → (t ≡ false → P y) → P (cond t x y)
+cond-case P true f g = f refl
+cond-case P false f g = g refl
+
+pub le-or-lt : {A : Type 0} (a b : ℕ) → (a ≤ b → A) → (b < a → A) → A
+le-or-lt {A} a b f g = go (leb a b) refl
+  where
+    go : (t : Bool) → leb a b ≡ t → A
+    go true e = f (leb-true a b e)
+    go false e = g (leb-false a b e)
+
+pub eq-or-ne : {A : Type 0} (a b : ℕ) → (a ≡ b → A) → ((a ≡ b → ⊥) → A) → A
+eq-or-ne {A} a b f g = go (eqb a b) refl
+  where
+    go : (t : Bool) → eqb a b ≡ t → A
+    go true e = f (eqb-true a b e)
+    go false e = g (eqb-false a b e)

@@ -1,0 +1,19 @@
+-- `lent::number::get8`: past the end `getD` gives 0. Assumes nothing.
+use mathlib.Core.Path.{sym}
+use borrow.Author.Needs.{needs}
+use lib.ListN.{List·getD-eq-default}
+use denote.Ref.{now}
+use Rattle.lent.proofs.number.get8.Statement.{statement}
+use Rattle.lent.proofs.number.get8.Tie as tie
+
+returns : tie.Need-returns
+returns c = sym (List·getD-eq-default (now (c .before .args .t)) 0 (c .if1 .taken))
+
+shared-slice-read-result : tie.Need-shared-slice-read-result
+shared-slice-read-result c = search needs
+
+returns-2 : tie.Need-returns-2
+returns-2 c = search needs
+
+pub get8-spec : {M : Type 1} → statement M
+get8-spec = tie.close (tie.spec returns shared-slice-read-result returns-2)
