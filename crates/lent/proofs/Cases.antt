@@ -1,6 +1,6 @@
 -- Going by the outcome of a test. Assumes nothing.
 use mathlib.Core.Path.{_≡_, refl, sym, _∙_}
-use mathlib.Core.Bool.{Bool, true, false, cond}
+use mathlib.Core.Bool.{Bool, true, false, cond, _&&_, false≢true}
 use Prim.Native.Nat.{ℕ, _≤_, _<_}
 use lib.Dec.{leb, eqb}
 use borrow.Author.Tests.{leb-true, leb-false, eqb-true, eqb-false}
@@ -23,3 +23,12 @@ eq-or-ne {A} a b f g = go (eqb a b) refl
     go : (t : Bool) → eqb a b ≡ t → A
     go true e = f (eqb-true a b e)
     go false e = g (eqb-false a b e)
+
+-- the parts of a test that held
+pub and-left : (a b : Bool) → (a && b) ≡ true → a ≡ true
+and-left true b e = refl
+and-left false b e = e
+
+pub and-right : (a b : Bool) → (a && b) ≡ true → b ≡ true
+and-right true b e = e
+and-right false b e = absurd (false≢true e)

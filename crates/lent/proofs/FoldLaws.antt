@@ -7,17 +7,9 @@ use native.Mathlib.Omega.{arith}
 use lib.Dec.{ltb}
 use borrow.Author.Tests.{ltb-true, ltb-false, lt-ltb, le-ltb}
 use Rattle.lent.specs.Fold.{all, sum, first}
-use Rattle.lent.proofs.Cases.{eq-or-ne, le-or-lt, cond-case}
+use Rattle.lent.proofs.Cases.{and-left, and-right, eq-or-ne, le-or-lt}
 
 -- ---- all
-
-pub and-left : (a b : Bool) → (a && b) ≡ true → a ≡ true
-and-left true b e = refl
-and-left false b e = e
-
-pub and-right : (a b : Bool) → (a && b) ≡ true → b ≡ true
-and-right true b e = e
-and-right false b e = absurd (false≢true e)
 
 module _ (f : ℕ → Bool) where
   -- one turn of a loop that counts up

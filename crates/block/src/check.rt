@@ -1,0 +1,37 @@
+// The check that ends a block. Its length and its function stand here and nowhere else.
+ghost use mathlib.Core.Path.{_≡_};
+ghost use lib.ListN.{length};
+ghost use Rattle.lent.specs.Place.{window, splice};
+ghost use Rattle.block.specs.Lrc.{lrcOf};
+ghost use Rattle.block.specs.Check.{checkOf, checkRight};
+
+// How many bytes it takes.
+pub(crate) const CHECK: usize = 1;
+
+// The exclusive or of all bytes.
+pub fn lrc(s: &[u8]) -> u8
+    ensures { λ r. ⌜ r ≡ lrcOf (now (s .entry)) ⌝ }
+{
+    let mut x: u8 = 0;
+    let mut i = 0;
+    while i < s.len() {
+        x = x ^ s[i];
+        i += 1;
+    }
+    x
+}
+
+// Whether a block ends in the check of what stands before it.
+pub(crate) fn is_right(block: &[u8]) -> bool
+    ensures { λ r. ⌜ r ≡ checkRight (now (block .entry)) ⌝ }
+{
+    lrc(block) == 0
+}
+
+// Writes the check of the first n bytes behind them.
+pub(crate) fn put_check(out: &mut [u8], n: usize)
+    ensures { λ _. ⌜ now (out .exit) ≡ splice (now (out .entry)) n (checkOf (window (now (out .entry)) 0 n)) ⌝ }
+{
+    let x = lrc(lent::part(out, 0, n));
+    lent::put8(out, n, x);
+}
