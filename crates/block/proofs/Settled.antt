@@ -8,12 +8,6 @@ use Rattle.block.proofs.reader.read.Kinds as read-kinds
 use Rattle.block.proofs.reader.read.Reads as read
 use Rattle.block.proofs.reader.inf.Kinds as inf-kinds
 use Rattle.block.proofs.reader.inf.Reads as inf
-use Rattle.block.proofs.reader.inf_of.Kinds as inf-of-kinds
-use Rattle.block.proofs.reader.inf_of.Reads as inf-of
-use Rattle.block.proofs.builder.i_pcb.Kinds as i-pcb-kinds
-use Rattle.block.proofs.builder.i_pcb.Reads as i-pcb
-use Rattle.block.proofs.builder.r_pcb.Kinds as r-pcb-kinds
-use Rattle.block.proofs.builder.r_pcb.Reads as r-pcb
 use Rattle.block.proofs.builder.build.Kinds as build-kinds
 use Rattle.block.proofs.builder.build.Reads as build
 
@@ -23,19 +17,10 @@ lrc-answer κs a x y s t f g = f ∙ sym g
 pub read-answer : Settles read-kinds.ps read-kinds.r read.Post (λ κs r s. r)
 read-answer κs a x y s t f g = f ∙ sym g
 
-pub i-pcb-answer : Settles i-pcb-kinds.ps i-pcb-kinds.r i-pcb.Post (λ κs r s. r)
-i-pcb-answer κs a x y s t f g = f ∙ sym g
-
-pub r-pcb-answer : Settles r-pcb-kinds.ps r-pcb-kinds.r r-pcb.Post (λ κs r s. r)
-r-pcb-answer κs a x y s t f g = f ∙ sym g
-
 -- the bytes of the part that is handed back
 
 pub inf-shown : Settles inf-kinds.ps inf-kinds.r inf.Post (λ κs r s. now r)
 inf-shown κs a x y s t f g = f ∙ sym g
-
-pub inf-of-shown : Settles inf-of-kinds.ps inf-of-kinds.r inf-of.Post (λ κs r s. now r)
-inf-of-shown κs a x y s t f g = f ∙ sym g
 
 -- the length that is answered, and all of the output
 pub build-answer : Settles build-kinds.ps build-kinds.r build.Post (λ κs r s. r)

@@ -4,34 +4,9 @@ ghost use Prim.Native.Nat.{_+_, _≤_};
 ghost use lib.ListN.{length};
 ghost use Rattle.lent.specs.Place.{splice};
 ghost use Rattle.block.specs.Block.{frame, blockOf};
-ghost use Rattle.block.specs.Builder.{iPcb, rPcb, fitsIn, builtLength, builtOut};
+ghost use Rattle.block.specs.Builder.{builtLength, builtOut};
 use super::FRAME;
 use super::INF_AT;
-
-// The PCB of an I-block: b7 the number, b6 more to come.
-pub fn i_pcb(number: u8, more: bool) -> u8
-    ensures { λ r. ⌜ r ≡ iPcb number more ⌝ }
-{
-    let n = number % 2 * 0x40;
-    if more { n + 0x20 } else { n }
-}
-
-// The PCB of an R-block: b5 the number, and its low nibble.
-pub fn r_pcb(number: u8, nibble: u8) -> u8
-    ensures { λ r. ⌜ r ≡ rPcb number nibble ⌝ }
-{
-    0x80 + number % 2 * 0x10 + nibble % 16
-}
-
-// Whether LEN is at most 254 and the output holds the block.
-fn has_room(out: &[u8], inf: &[u8]) -> bool
-    ensures { λ r. ⌜ r ≡ fitsIn (now (out .entry)) (now (inf .entry)) ⌝ }
-{
-    if 254 < inf.len() {
-        return false;
-    }
-    FRAME + inf.len() <= out.len()
-}
 
 // Writes the block at the front of an output that holds it.
 fn write(out: &mut [u8], pcb: u8, inf: &[u8])
@@ -51,9 +26,12 @@ pub fn build(out: &mut [u8], pcb: u8, inf: &[u8]) -> usize
     ensures { λ r. ⌜ r ≡ builtLength (now (out .entry)) (now (inf .entry)) ⌝ }
     ensures { λ _. ⌜ now (out .exit) ≡ builtOut (now (out .entry)) pcb (now (inf .entry)) ⌝ }
 {
-    if has_room(out, inf) {
-        write(out, pcb, inf);
-        return FRAME + inf.len();
+    if 254 < inf.len() {
+        return 0;
     }
-    0
+    if out.len() < FRAME + inf.len() {
+        return 0;
+    }
+    write(out, pcb, inf);
+    FRAME + inf.len()
 }

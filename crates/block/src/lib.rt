@@ -4,12 +4,9 @@ mod check;
 mod reader;
 
 pub use builder::build;
-pub use builder::i_pcb;
-pub use builder::r_pcb;
 pub use check::lrc;
 pub use reader::Event;
 pub use reader::inf;
-pub use reader::inf_of;
 pub use reader::read;
 
 // Where INF begins, after NAD, PCB and LEN; and the length of a block without its INF.

@@ -2,7 +2,7 @@
 ghost use mathlib.Core.Path.{_≡_};
 ghost use lib.ListN.{length};
 ghost use Rattle.block.specs.Block.{infPart};
-ghost use Rattle.block.specs.Reader.{between, oneByte, namedOf, inRange, sortOf, whole, bytesOf, readOf, wellOf, infOf, infRead};
+ghost use Rattle.block.specs.Reader.{between, oneByte, namedOf, inRange, sortOf, whole, bytesOf, readOf, wellOf, infOf};
 use super::FRAME;
 use super::INF_AT;
 
@@ -170,19 +170,13 @@ fn is_well(e: Event) -> bool
     }
 }
 
-// The INF of what s was read as: for a block that reads well the part of s from byte 3 to the check, else the empty part.
-pub fn inf_of(e: Event, s: &[u8]) -> &[u8]
+// The INF of bytes that were read as e: for a block that reads well the part of the caller's own bytes from byte 3 to
+// the check, without copying; for every other event the empty part.
+pub fn inf(e: Event, s: &[u8]) -> &[u8]
     ensures { λ r. ⌜ now r ≡ infOf e (now (s .entry)) ⌝ }
 {
     if is_well(e) {
         return inf_part(s);
     }
     lent::part(s, 0, 0)
-}
-
-// The INF of an event, as a part of the caller's own bytes.
-pub fn inf(kind: u64, s: &[u8]) -> &[u8]
-    ensures { λ r. ⌜ now r ≡ infRead kind (now (s .entry)) ⌝ }
-{
-    inf_of(read(kind, s), s)
 }

@@ -1,0 +1,61 @@
+// Text on standard output.
+use block::Event;
+
+pub(crate) fn text(s: &[u8]) {
+    io::write_all(1, s);
+}
+
+pub(crate) fn number(n: u64) {
+    io::print_decimal(1, n);
+}
+
+// A byte as two hexadecimal digits, behind a space.
+pub(crate) fn byte(b: u8) {
+    text(b" ");
+    io::print_hex(1, b as u64, 2);
+}
+
+pub(crate) fn bytes(s: &[u8]) {
+    let mut i: usize = 0;
+    while i < s.len() {
+        byte(s[i]);
+        i += 1;
+    }
+}
+
+fn more_or_last(more: bool) {
+    if more {
+        text(b" more");
+    } else {
+        text(b" last");
+    }
+}
+
+pub(crate) fn event(e: Event) {
+    match e {
+        Event::I { number, more } => {
+            text(b"I");
+            byte(number);
+            more_or_last(more);
+        }
+        Event::R { number } => {
+            text(b"R");
+            byte(number);
+        }
+        Event::IfsRequest { size } => {
+            text(b"IFS request");
+            byte(size);
+        }
+        Event::IfsResponse { size } => {
+            text(b"IFS response");
+            byte(size);
+        }
+        Event::Abort => text(b"abort"),
+        Event::Wtx { times } => {
+            text(b"WTX");
+            byte(times);
+        }
+        Event::Edc => text(b"EDC"),
+        Event::Other => text(b"other"),
+    }
+}
