@@ -12,9 +12,9 @@ use Rattle.lent.specs.Place.{window, splice}
 use Rattle.lent.proofs.PlaceLaws.{length-splice, window-same, window-after, splice-append}
 use Rattle.lent.proofs.Cases.{cond-case, and-right}
 use Rattle.block.specs.Check.{checkLength, checkOf}
-use Rattle.block.specs.Block.{infAt, frame, infPart, headOf, blockOf}
+use Rattle.block.specs.Block.{infAt, frame, infPart, iPcb, rPcb, headOf, blockOf}
 use Rattle.block.specs.Reader.{whole, bytesOf, readOf, between, inRange, sortOf, namedOf, infOf, infRead}
-use Rattle.block.specs.Builder.{iPcb, rPcb, fitsIn, builtLength, builtOut}
+use Rattle.block.specs.Builder.{fitsIn, builtLength, builtOut}
 use Rattle.block.specs.declared.reader.Event.{Event}
 use Rattle.block.specs.declared.reader.Event.the-variants.{I, R, IfsRequest, IfsResponse, Abort, Wtx}
 use Rattle.block.proofs.CheckLaws.{length-check, check-closed}

@@ -1,5 +1,6 @@
 -- A block: NAD, PCB, LEN, INF, and the check.
-use Prim.Native.Nat.{ℕ, _+_, _-_, _/_, _%_, _^_}
+use Prim.Native.Nat.{ℕ, _+_, _-_, _*_, _/_, _%_, _^_}
+use mathlib.Core.Bool.{Bool, cond}
 use mathlib.Core.List.{List, _∷_, _++_}
 use lib.ListN.{length, getD}
 use Rattle.lent.specs.Place.{window}
@@ -32,10 +33,21 @@ infPart s = window s infAt (length s - frame)
 abbrev pub bit : ℕ → ℕ → ℕ
 bit n x = x / 2 ^ (n - 1) % 2
 
--- ---- a block to send: NAD 00
+-- ---- a block to send
+
+-- the PCB of an I-block: b7 the number, b6 more to come
+abbrev pub iPcb : (number : ℕ) (more : Bool) → ℕ
+iPcb n m = 0x40 * n + cond m 0x20 0
+
+-- the PCB of an R-block: b5 the number, 0 to 2 in its low nibble
+abbrev pub rPcb : (number nibble : ℕ) → ℕ
+rPcb n k = 0x80 + 0x10 * n + k
+
+-- NAD 00, PCB, LEN, INF
 
 unfoldable pub headOf : (pcb : ℕ) (inf : List ℕ) → List ℕ
 headOf p inf = 0x00 ∷ p ∷ length inf ∷ inf
 
+-- and the check
 unfoldable pub blockOf : (pcb : ℕ) (inf : List ℕ) → List ℕ
 blockOf p inf = headOf p inf ++ checkOf (headOf p inf)

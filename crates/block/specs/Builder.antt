@@ -1,19 +1,11 @@
 -- Sending a block.
-use Prim.Native.Nat.{ℕ, _+_, _*_, _%_}
+use Prim.Native.Nat.{ℕ, _+_}
 use mathlib.Core.Bool.{Bool, cond, _&&_}
 use mathlib.Core.List.{List}
 use lib.Dec.{leb}
 use lib.ListN.{length}
-use Rattle.lent.specs.Place.{within, splice}
+use Rattle.lent.specs.Place.{splice}
 use Rattle.block.specs.Block.{frame, blockOf}
-
--- b7 the number, b6 more to come
-abbrev pub iPcb : (number : ℕ) (more : Bool) → ℕ
-iPcb n m = n % 2 * 0x40 + cond m 0x20 0
-
--- b5 the number, and the low nibble
-abbrev pub rPcb : (number nibble : ℕ) → ℕ
-rPcb n k = 0x80 + n % 2 * 0x10 + k % 16
 
 -- LEN at most 254, and the output holds the block
 abbrev pub fitsIn : (out inf : List ℕ) → Bool

@@ -1,8 +1,7 @@
 // Reading a block: what an event is, by its kind and its bytes, and where its INF lies.
 ghost use mathlib.Core.Path.{_≡_};
-ghost use lib.ListN.{length};
 ghost use Rattle.block.specs.Block.{infPart};
-ghost use Rattle.block.specs.Reader.{between, oneByte, namedOf, inRange, sortOf, whole, bytesOf, readOf, wellOf, infOf};
+ghost use Rattle.block.specs.Reader.{oneByte, namedOf, inRange, sortOf, whole, bytesOf, readOf, wellOf, infOf};
 use super::FRAME;
 use super::INF_AT;
 
@@ -16,16 +15,6 @@ pub enum Event {
     Wtx { times: u8 },
     Edc,
     Other,
-}
-
-// Whether LEN lies in a range.
-fn has_length(inf: &[u8], low: usize, high: usize) -> bool
-    ensures { λ r. ⌜ r ≡ between low (length (now (inf .entry))) high ⌝ }
-{
-    if inf.len() < low {
-        return false;
-    }
-    inf.len() <= high
 }
 
 // Whether INF is one byte that lies in a range.
@@ -82,7 +71,11 @@ fn in_range(e: Event, inf: &[u8]) -> bool
     ensures { λ r. ⌜ r ≡ inRange e (now (inf .entry)) ⌝ }
 {
     match e {
-        Event::I { number: _, more: _ } => has_length(inf, 1, 254),
+        Event::I { number: _, more: _ } => if inf.len() < 1 {
+            false
+        } else {
+            inf.len() <= 254
+        },
         Event::R { number: _ } => inf.len() == 0,
         Event::IfsRequest { size: _ } => is_byte(inf, 0x10, 0xFE),
         Event::IfsResponse { size: _ } => is_byte(inf, 0x10, 0xFE),

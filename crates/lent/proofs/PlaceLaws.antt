@@ -128,6 +128,24 @@ module _ (t : List ℕ) (a : ℕ) (xs : List ℕ) where
         ∙ window-inside 0 (length xs) (omega arith)
         ∙ window-whole xs
 
+-- ---- one byte after a write
+
+byte-window : (t : List ℕ) (j : ℕ) → getD t j 0 ≡ getD (window t j 1) 0 0
+byte-window t j = sym (getD-window t j 1 0 (omega arith) ∙ ap (λ (k : ℕ). getD t k 0) (add-zero j))
+
+module _ (t : List ℕ) (a : ℕ) (xs : List ℕ) (j : ℕ) where
+  pub byte-before : j < a → getD (splice t a xs) j 0 ≡ getD t j 0
+  byte-before h = byte-window (splice t a xs) j ∙ ap (λ (w : List ℕ). getD w 0 0) (window-before t a xs j 1 (omega arith)) ∙ sym (byte-window t j)
+
+  pub byte-after : a + length xs ≤ j → getD (splice t a xs) j 0 ≡ getD t j 0
+  byte-after h = byte-window (splice t a xs) j ∙ ap (λ (w : List ℕ). getD w 0 0) (window-after t a xs j 1 h) ∙ sym (byte-window t j)
+
+  pub byte-inside : a + length xs ≤ length t → j < length xs → getD (splice t a xs) (a + j) 0 ≡ getD xs j 0
+  byte-inside f h =
+      byte-window (splice t a xs) (a + j) ∙ ap (λ (w : List ℕ). getD w 0 0) (window-inside t a xs f j 1 (omega arith)) ∙ sym (byte-window xs j)
+
+-- ---- writes
+
 -- a write of nothing
 pub splice-none : (t : List ℕ) (a : ℕ) → splice t a [] ≡ t
 unfolding over
