@@ -13,12 +13,13 @@ use Rattle.lent.proofs.PlaceLaws.{length-splice, window-same, window-after, spl
 use Rattle.lent.proofs.Cases.{cond-case, and-right}
 use Rattle.block.specs.Check.{checkLength, checkOf}
 use Rattle.block.specs.Block.{infAt, frame, infPart, iPcb, rPcb, headOf, blockOf}
-use Rattle.block.specs.Reader.{whole, bytesOf, readOf, between, inRange, sortOf, namedOf, infOf, infRead}
+use Rattle.block.specs.Event.{between, inRange, sortOf, namedOf, infOf}
+use Rattle.block.specs.Reader.{whole, bytesOf, readOf, infRead}
 use Rattle.block.specs.Builder.{fitsIn, builtLength, builtOut}
-use Rattle.block.specs.declared.reader.Event.{Event}
-use Rattle.block.specs.declared.reader.Event.the-variants.{I, R, IfsRequest, IfsResponse, Abort, Wtx}
+use Rattle.block.specs.declared.event.Event.{Event}
+use Rattle.block.specs.declared.event.Event.the-variants.{I, R, IfsRequest, IfsResponse, Abort, Wtx}
 use Rattle.block.proofs.CheckLaws.{length-check, check-closed}
-use Rattle.block.proofs.ReaderLaws.{range-well}
+use Rattle.block.proofs.EventLaws.{range-well}
 
 pub length-head : (p : ℕ) (inf : List ℕ) → length (headOf p inf) ≡ infAt + length inf
 unfolding headOf

@@ -2,6 +2,7 @@
 pub mod Xor
 pub mod LrcLaws
 pub mod CheckLaws
+pub mod EventLaws
 pub mod ReaderLaws
 pub mod BuilderLaws
 pub mod Settled

@@ -4,7 +4,8 @@ use Rattle.lent.specs.Place.{window}
 use Rattle.block.specs.Lrc.{lrcOf}
 use Rattle.block.specs.Check.{checkOf, checkRight}
 use Rattle.block.specs.Block.{infPart, headOf, blockOf}
-use Rattle.block.specs.Reader.{namedOf, sortOf, whole, bytesOf, readOf, infOf, infRead}
+use Rattle.block.specs.Event.{namedOf, sortOf, infOf}
+use Rattle.block.specs.Reader.{whole, bytesOf, readOf, infRead}
 use Rattle.block.specs.Vectors.{AllHold, vectors}
 
 pub vectors-hold : AllHold vectors

@@ -2,6 +2,7 @@
 pub mod Lrc
 pub mod Check
 pub mod Block
+pub mod Event
 pub mod Reader
 pub mod Builder
 pub mod Vectors

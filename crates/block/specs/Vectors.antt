@@ -5,8 +5,8 @@ use mathlib.Core.List.{List, [], _∷_}
 use Prim.Native.Nat.{ℕ}
 use Rattle.block.specs.Block.{blockOf}
 use Rattle.block.specs.Reader.{readOf, infRead}
-use Rattle.block.specs.declared.reader.Event.{Event}
-use Rattle.block.specs.declared.reader.Event.the-variants.{I, IfsResponse, Wtx, Edc, Other}
+use Rattle.block.specs.declared.event.Event.{Event}
+use Rattle.block.specs.declared.event.Event.the-variants.{I, IfsResponse, Wtx, Edc, Other}
 
 pub data Vector : Type 0 where
   sent : (pcb : ℕ) (inf block : List ℕ) → Vector

@@ -1,11 +1,12 @@
 // The block codec of T=1: the check, the reader and the builder.
 mod builder;
 mod check;
+mod event;
 mod reader;
 
 pub use builder::build;
 pub use check::lrc;
-pub use reader::Event;
+pub use event::Event;
 pub use reader::inf;
 pub use reader::read;
 

@@ -2,7 +2,7 @@
 use mathlib.Core.Path.{sym, _∙_}
 use denote.Ref.{now}
 use Rattle.lent.proofs.PlaceLaws.{window-none}
-use Rattle.block.specs.Reader.{infOf}
+use Rattle.block.specs.Event.{infOf}
 use borrow.Author.Needs.{needs}
 use Rattle.block.proofs.reader.inf.Statement.{statement}
 use Rattle.block.proofs.reader.inf.Tie as tie

@@ -1,5 +1,5 @@
 -- `block::reader::read`: by kind. Assumes nothing.
-use borrow.Author.Tests.{eq-eqb, ne-eqb}
+use borrow.Author.Tests.{ne-eqb}
 use mathlib.Core.Path.{sym, _∙_}
 use Rattle.block.specs.Reader.{readOf}
 use borrow.Author.Needs.{needs}
@@ -11,15 +11,15 @@ read-bytes-requires c κs = search needs
 
 returns : tie.Need-returns
 unfolding readOf
-returns c = c .read-bytes .ensures ∙ sym (simp (eq-eqb _ _ (c .before .if1 .taken)))
+returns c = c .read-bytes .ensures ∙ sym (simp (c .before .match .keys1))
 
 returns-2 : tie.Need-returns-2
 unfolding readOf
-returns-2 c = simp (ne-eqb _ _ (c .before .if1 .left), ne-eqb _ _ (c .if2 .taken))
+returns-2 c = simp (c .match .keys2)
 
 returns-3 : tie.Need-returns-3
 unfolding readOf
-returns-3 c = simp (ne-eqb _ _ (c .before .if1 .left), eq-eqb _ _ (c .if2 .left))
+returns-3 c = simp (ne-eqb _ _ (c .match .rest .0 .1), ne-eqb _ _ (c .match .rest .1))
 
 pub read-spec : {M : Type 1} → statement M
 read-spec = tie.close (tie.spec read-bytes-requires returns returns-2 returns-3)

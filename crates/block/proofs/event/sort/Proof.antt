@@ -1,12 +1,12 @@
--- `block::reader::sort`: the block that the PCB names, and the test of its range. Assumes nothing.
+-- `block::event::sort`: the block that the PCB names, and the test of its range. Assumes nothing.
 use mathlib.Core.Path.{_≡_, sym, ap, _∙_}
 use lib.ListN.{getD}
 use denote.Ref.{now}
-use Rattle.block.specs.declared.reader.Event.{Event}
-use Rattle.block.specs.Reader.{sortOf, namedOf, inRange}
+use Rattle.block.specs.declared.event.Event.{Event}
+use Rattle.block.specs.Event.{sortOf, namedOf, inRange}
 use borrow.Author.Needs.{needs}
-use Rattle.block.proofs.reader.sort.Statement.{statement}
-use Rattle.block.proofs.reader.sort.Tie as tie
+use Rattle.block.proofs.event.sort.Statement.{statement}
+use Rattle.block.proofs.event.sort.Tie as tie
 
 block : (c : tie.After-named) → let a = c .before .before .before .args in c .named .result ≡ namedOf (a .pcb) (getD (now (a .inf)) 0 0)
 block c = c .named .ensures ∙ ap (namedOf (c .before .before .before .args .pcb)) (c .before .get8 .ensures)

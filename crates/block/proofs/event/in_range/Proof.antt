@@ -1,9 +1,9 @@
--- `block::reader::in_range`: each arm is told which block it has. Assumes nothing.
+-- `block::event::in_range`: each arm is told which block it has. Assumes nothing.
 use mathlib.Core.Path.{_∙_, sym}
 use borrow.Author.Tests.{lt-leb, le-leb}
 use borrow.Author.Needs.{needs}
-use Rattle.block.proofs.reader.in_range.Statement.{statement}
-use Rattle.block.proofs.reader.in_range.Tie as tie
+use Rattle.block.proofs.event.in_range.Statement.{statement}
+use Rattle.block.proofs.event.in_range.Tie as tie
 
 enum-told : tie.Need-enum-told
 enum-told c = search needs

@@ -1,8 +1,8 @@
--- `block::reader::named`: at each key the definition computes, and the default is none of the 14. Assumes nothing.
+-- `block::event::named`: at each key the definition computes, and the default is none of the 14. Assumes nothing.
 use borrow.Author.Tests.{ne-eqb}
-use Rattle.block.specs.Reader.{namedOf}
-use Rattle.block.proofs.reader.named.Statement.{statement}
-use Rattle.block.proofs.reader.named.Tie as tie
+use Rattle.block.specs.Event.{namedOf}
+use Rattle.block.proofs.event.named.Statement.{statement}
+use Rattle.block.proofs.event.named.Tie as tie
 
 returns : tie.Need-returns
 unfolding namedOf

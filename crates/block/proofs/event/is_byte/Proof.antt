@@ -1,8 +1,8 @@
--- `block::reader::is_byte`: the three tests, one by one. Assumes nothing.
+-- `block::event::is_byte`: the three tests, one by one. Assumes nothing.
 use borrow.Author.Tests.{lt-leb, le-leb, eq-eqb, ne-eqb}
 use borrow.Author.Needs.{needs}
-use Rattle.block.proofs.reader.is_byte.Statement.{statement}
-use Rattle.block.proofs.reader.is_byte.Tie as tie
+use Rattle.block.proofs.event.is_byte.Statement.{statement}
+use Rattle.block.proofs.event.is_byte.Tie as tie
 
 returns : tie.Need-returns
 returns c = simp (ne-eqb _ _ (c .if1 .taken))
