@@ -7,6 +7,7 @@ use native.Mathlib.Omega.{arith}
 use lib.Dec.{leb, eqb}
 use lib.ListN.{length, getD}
 use borrow.Author.Tests.{leb-true, eqb-true}
+use Rattle.lent.specs.Fold.{sum}
 use Rattle.lent.proofs.Cases.{cond-case, and-left, and-right}
 use Rattle.block.specs.Block.{infPart}
 use Rattle.block.specs.Event.{oneOf, iCodes, rCodes, between, oneByte, namedOf, inRange, sortOf, wellOf, infOf, Told}
@@ -29,7 +30,7 @@ module _ (low n high : ℕ) (e : between low n high ≡ true) where
   at-most : n ≤ high
   at-most = leb-true n high (and-right (leb low n) (leb n high) e)
 
-module _ (low high : ℕ) (inf : List ℕ) (e : oneByte low high inf ≡ true) where
+module _ (low : ℕ) (inf : List ℕ) (high : ℕ) (e : oneByte low inf high ≡ true) where
   byte-told : (inf ≡ getD inf 0 0 ∷ []) × (low ≤ getD inf 0 0) × (getD inf 0 0 ≤ high)
   byte-told =
       let v = getD inf 0 0 in
@@ -41,10 +42,10 @@ unfolding namedOf
 named-told p inf =
     cond-case P (oneOf p iCodes) (λ _ e. (omega arith, at-least 1 (length inf) 254 e, at-most 1 (length inf) 254 e))
     (λ _. cond-case P (oneOf p rCodes) (λ _ e. (omega arith, none inf e))
-    (λ _. cond-case P (eqb p 0xC1) (λ _ e. byte-told 0x10 0xFE inf e)
-    (λ _. cond-case P (eqb p 0xE1) (λ _ e. byte-told 0x10 0xFE inf e)
+    (λ _. cond-case P (eqb p 0xC1) (λ _ e. byte-told 0x10 inf 0xFE e)
+    (λ _. cond-case P (eqb p 0xE1) (λ _ e. byte-told 0x10 inf 0xFE e)
     (λ _. cond-case P (eqb p 0xC2) (λ _ e. none inf e)
-    (λ _. cond-case P (eqb p 0xC3) (λ _ e. byte-told 0x01 0xFF inf e)
+    (λ _. cond-case P (eqb p 0xC3) (λ _ e. byte-told 0x01 inf 0xFF e)
     (λ _ e. absurd (false≢true e)))))))
   where
     P : Event → Type 0
@@ -72,3 +73,8 @@ sort-told p s =
 
     P : Event → Type 0
     P e = Told e (cond (wellOf e) (infPart s) [])
+
+-- 14 PCBs name a block, and the other 242 name none
+pub fourteen : sum 256 (λ p. cond (wellOf (namedOf p 0)) 1 0) ≡ 14
+unfolding sum namedOf
+fourteen = refl

@@ -44,7 +44,6 @@ abbrev pub rPcb : (number nibble : ℕ) → ℕ
 rPcb n k = 0x80 + 0x10 * n + k
 
 -- NAD 00, PCB, LEN, INF
-
 unfoldable pub headOf : (pcb : ℕ) (inf : List ℕ) → List ℕ
 headOf p inf = 0x00 ∷ p ∷ length inf ∷ inf
 

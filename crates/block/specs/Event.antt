@@ -41,17 +41,17 @@ abbrev pub between : (low n high : ℕ) → Bool
 between low n high = leb low n && leb n high
 
 -- one byte, of a range
-abbrev pub oneByte : (low high : ℕ) → List ℕ → Bool
-oneByte low high inf = eqb (length inf) 1 && between low (getD inf 0 0) high
+abbrev pub oneByte : (low : ℕ) (inf : List ℕ) (high : ℕ) → Bool
+oneByte low inf high = eqb (length inf) 1 && between low (getD inf 0 0) high
 
 -- I: LEN 1 to 254. R: LEN 0. S: IFS with one byte 10 to FE; abort with LEN 0; WTX with one byte 01 to FF
 abbrev pub inRange : Event → List ℕ → Bool
 inRange (I n m) inf = between 1 (length inf) 254
 inRange (R n) inf = eqb (length inf) 0
-inRange (IfsRequest n) inf = oneByte 0x10 0xFE inf
-inRange (IfsResponse n) inf = oneByte 0x10 0xFE inf
+inRange (IfsRequest n) inf = oneByte 0x10 inf 0xFE
+inRange (IfsResponse n) inf = oneByte 0x10 inf 0xFE
 inRange Abort inf = eqb (length inf) 0
-inRange (Wtx n) inf = oneByte 0x01 0xFF inf
+inRange (Wtx n) inf = oneByte 0x01 inf 0xFF
 inRange Edc inf = false
 inRange Other inf = false
 

@@ -1,6 +1,6 @@
 // What an event is, and how a PCB with its LEN and INF sorts into one.
 ghost use mathlib.Core.Path.{_≡_};
-ghost use Rattle.block.specs.Event.{namedOf, oneByte, inRange, sortOf, wellOf};
+ghost use Rattle.block.specs.Event.{namedOf, between, oneByte, inRange, sortOf, wellOf};
 
 // What an event is: a block that reads well, or one of the two faults.
 pub enum Event {
@@ -49,18 +49,24 @@ fn named(pcb: u8, v: u8) -> Event
     }
 }
 
-// Whether INF is one byte that lies in a range.
-fn is_byte(inf: &[u8], low: u8, high: u8) -> bool
-    ensures { λ r. ⌜ r ≡ oneByte low high (now (inf .entry)) ⌝ }
+// Whether n lies in a range, its ends included.
+fn is_between(low: usize, n: usize, high: usize) -> bool
+    ensures { λ r. ⌜ r ≡ between low n high ⌝ }
+{
+    if n < low {
+        return false;
+    }
+    n <= high
+}
+
+// Whether INF is one byte of a range.
+fn is_byte(low: usize, inf: &[u8], high: usize) -> bool
+    ensures { λ r. ⌜ r ≡ oneByte low (now (inf .entry)) high ⌝ }
 {
     if inf.len() != 1 {
         return false;
     }
-    let v = inf[0];
-    if v < low {
-        return false;
-    }
-    v <= high
+    is_between(low, lent::get8(inf, 0) as usize, high)
 }
 
 // Whether LEN and INF are as that block asks.
@@ -68,16 +74,12 @@ fn in_range(e: Event, inf: &[u8]) -> bool
     ensures { λ r. ⌜ r ≡ inRange e (now (inf .entry)) ⌝ }
 {
     match e {
-        Event::I { number: _, more: _ } => if inf.len() < 1 {
-            false
-        } else {
-            inf.len() <= 254
-        },
+        Event::I { number: _, more: _ } => is_between(1, inf.len(), 254),
         Event::R { number: _ } => inf.len() == 0,
-        Event::IfsRequest { size: _ } => is_byte(inf, 0x10, 0xFE),
-        Event::IfsResponse { size: _ } => is_byte(inf, 0x10, 0xFE),
+        Event::IfsRequest { size: _ } => is_byte(0x10, inf, 0xFE),
+        Event::IfsResponse { size: _ } => is_byte(0x10, inf, 0xFE),
         Event::Abort => inf.len() == 0,
-        Event::Wtx { times: _ } => is_byte(inf, 0x01, 0xFF),
+        Event::Wtx { times: _ } => is_byte(0x01, inf, 0xFF),
         Event::Edc => false,
         Event::Other => false,
     }
