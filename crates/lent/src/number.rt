@@ -2,7 +2,6 @@
 // and is not written.
 ghost use mathlib.Core.Path.{_≡_};
 ghost use mathlib.Core.List.{[], _∷_};
-ghost use Prim.Native.Nat.{_+_, _*_};
 ghost use lib.ListN.{getD};
 ghost use Rattle.lent.specs.Place.{within, splice};
 ghost use Rattle.lent.specs.Number.{bytesOf, numberAt};
@@ -29,25 +28,12 @@ pub fn put8(t: &mut [u8], a: usize, v: u8) -> bool
     false
 }
 
-// Two and four bytes as one number. By value, so that a reader of a table has only the places to prove.
-fn join16(h: u8, l: u8) -> u16
-    ensures { λ r. ⌜ r ≡ h * 256 + l ⌝ }
-{
-    (h as u16) * 256 + (l as u16)
-}
-
-fn join32(a: u8, b: u8, c: u8, d: u8) -> u32
-    ensures { λ r. ⌜ r ≡ a * 16777216 + b * 65536 + c * 256 + d ⌝ }
-{
-    (a as u32) * 16777216 + (b as u32) * 65536 + (c as u32) * 256 + (d as u32)
-}
-
 // The number of the two bytes from a.
 pub fn get16(t: &[u8], a: usize) -> u16
     ensures { λ r. ⌜ r ≡ numberAt (now (t .entry)) a 2 ⌝ }
 {
     if super::place::lies_within(t, a, 2) {
-        return join16(t[a], t[a + 1]);
+        return (get8(t, a) as u16) * 256 + (get8(t, a + 1) as u16);
     }
     0
 }
@@ -66,7 +52,10 @@ pub fn get32(t: &[u8], a: usize) -> u32
     ensures { λ r. ⌜ r ≡ numberAt (now (t .entry)) a 4 ⌝ }
 {
     if super::place::lies_within(t, a, 4) {
-        return join32(t[a], t[a + 1], t[a + 2], t[a + 3]);
+        return (get8(t, a) as u32) * 16777216
+            + (get8(t, a + 1) as u32) * 65536
+            + (get8(t, a + 2) as u32) * 256
+            + (get8(t, a + 3) as u32);
     }
     0
 }

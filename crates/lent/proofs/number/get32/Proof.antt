@@ -1,6 +1,6 @@
 -- `lent::number::get32`: the bytes by their weights are the number that they make. Assumes nothing.
-use mathlib.Core.Path.{_≡_, sym, ap, _∙_}
-use Prim.Native.Nat.{ℕ, _+_, _≤_}
+use mathlib.Core.Path.{_≡_, sym, _∙_}
+use Prim.Native.Nat.{_+_, _≤_}
 use native.Mathlib.Nat.{add-zero}
 use native.Mathlib.Omega.{arith}
 use lib.ListN.{length}
@@ -18,40 +18,65 @@ inside c = leb-true _ _ (sym (c .before .lies-within .ensures) ∙ c .if1 .taken
 lies-within-requires : tie.Need-lies-within-requires
 lies-within-requires c κs = search needs
 
-shared-slice-read-join32 : tie.Need-shared-slice-read-join32
-shared-slice-read-join32 c = omega (arith, inside (c .before))
+get8-requires : tie.Need-get8-requires
+get8-requires c κs = search needs
 
-add-join32 : tie.Need-add-join32
-add-join32 c = omega (arith, inside (c .before))
+cast-result : tie.Need-cast-result
+cast-result c = search needs
 
-shared-slice-read-join32-2 : tie.Need-shared-slice-read-join32-2
-shared-slice-read-join32-2 c = omega (arith, inside (c .before .before))
+mul-result : tie.Need-mul-result
+mul-result c = search needs
 
-add-join32-2 : tie.Need-add-join32-2
-add-join32-2 c = omega (arith, inside (c .before .before))
+add-get8 : tie.Need-add-get8
+add-get8 c = omega (arith, inside (c .before))
 
-shared-slice-read-join32-3 : tie.Need-shared-slice-read-join32-3
-shared-slice-read-join32-3 c = omega (arith, inside (c .before .before .before))
+get8-requires-2 : tie.Need-get8-requires-2
+get8-requires-2 c κs = search needs
 
-add-join32-3 : tie.Need-add-join32-3
-add-join32-3 c = omega (arith, inside (c .before .before .before))
+cast-result-2 : tie.Need-cast-result-2
+cast-result-2 c = search needs
 
-shared-slice-read-join32-4 : tie.Need-shared-slice-read-join32-4
-shared-slice-read-join32-4 c = omega (arith, inside (c .before .before .before .before))
+mul-result-2 : tie.Need-mul-result-2
+mul-result-2 c = search needs
 
-join32-requires : tie.Need-join32-requires
-join32-requires c κs = search needs
+add-result : tie.Need-add-result
+add-result c = search needs
+
+add-get8-2 : tie.Need-add-get8-2
+add-get8-2 c = omega (arith, inside (c .before .before))
+
+get8-requires-3 : tie.Need-get8-requires-3
+get8-requires-3 c κs = search needs
+
+cast-result-3 : tie.Need-cast-result-3
+cast-result-3 c = search needs
+
+mul-result-3 : tie.Need-mul-result-3
+mul-result-3 c = search needs
+
+add-result-2 : tie.Need-add-result-2
+add-result-2 c = search needs
+
+add-get8-3 : tie.Need-add-get8-3
+add-get8-3 c = omega (arith, inside (c .before .before .before))
+
+get8-requires-4 : tie.Need-get8-requires-4
+get8-requires-4 c κs = search needs
+
+cast-result-4 : tie.Need-cast-result-4
+cast-result-4 c = search needs
+
+add-result-3 : tie.Need-add-result-3
+add-result-3 c = search needs
 
 returns : tie.Need-returns
-returns c =
-    let t = c .before .before .before .before .before in
+returns c = let t = c .before .before .before .before in
     let a = t .before .before .before .args in
     let e : numberAt (now (a .t)) (a .a + 0) 4 ≡ _ = number-weighed (now (a .t)) (a .a) 0 4 (inside t) in
-    c .join32 .ensures ∙ sym (simp add-zero at e ∙ omega arith)
+    omega (arith, simp add-zero at e)
 
 returns-2 : tie.Need-returns-2
-returns-2 c =
-    let a = c .before .before .before .args in
+returns-2 c = let a = c .before .before .before .args in
     sym (number-out (now (a .t)) (a .a) 4 (leb-false _ _ (sym (c .before .lies-within .ensures) ∙ c .if1 .left)))
 
 pub get32-spec : {M : Type 1} → statement M
@@ -59,13 +84,22 @@ get32-spec =
     tie.close
     (tie.spec
     lies-within-requires
-    shared-slice-read-join32
-    add-join32
-    shared-slice-read-join32-2
-    add-join32-2
-    shared-slice-read-join32-3
-    add-join32-3
-    shared-slice-read-join32-4
-    join32-requires
+    get8-requires
+    cast-result
+    mul-result
+    add-get8
+    get8-requires-2
+    cast-result-2
+    mul-result-2
+    add-result
+    add-get8-2
+    get8-requires-3
+    cast-result-3
+    mul-result-3
+    add-result-2
+    add-get8-3
+    get8-requires-4
+    cast-result-4
+    add-result-3
     returns
     returns-2)
