@@ -35,7 +35,7 @@ def read(kind, block):
     pcb, inf = block[1], block[3:-1]
     if pcb in I_CODES and 1 <= len(inf) <= 254:
         more = "more" if pcb & 0b00100000 else "last"
-        return "I", f" {pcb >> 6 & 1:02x} {more}", inf
+        return "I", f" {more} {pcb >> 6 & 1:02x}", inf
     if pcb in R_CODES and inf == []:
         return "R", f" {pcb >> 4 & 1:02x}", inf
     if pcb in (0xC1, 0xE1) and len(inf) == 1 and 0x10 <= inf[0] <= 0xFE:
@@ -58,7 +58,7 @@ def sends(printed):
 
 def receives(kind, printed):
     name, detail, inf = read(kind, list(bytes.fromhex(printed)))
-    print(f"receives {name}{detail}, INF{hexed(inf)}")
+    print(f"receives{hexed(inf)}: {name}{detail}")
 
 
 def paper():
@@ -81,7 +81,9 @@ def paper():
 def limits():
     for n in (254, 255):
         name, detail, _ = read(0, framed(0x00, [0] * n))
-        print(f"LEN {n:02x}: {name}{detail}; built {4 + n if n <= 254 else 0} bytes")
+        print(f"LEN {n:02x}: {name}{detail}")
+    for n in (254, 255):
+        print(f"built {4 + n if n <= 254 else 0}")
     for v in (0x0F, 0x10, 0xFE, 0xFF):
         name, detail, _ = read(0, framed(0xC1, [v]))
         print(f"IFS byte {v:02x}: {name}{detail}")
@@ -95,7 +97,7 @@ def every_pcb():
                 block = framed(pcb, [0x20] * n)
                 block[-1] ^= fault
                 counts[read(0, block)[0]] += 1
-            print(f"every PCB, LEN {n}, LRC {word}: " + ", ".join(f"{k} {counts[k]}" for k in NAMES))
+            print(f"LEN {n}, LRC {word}:" + "".join(f" {counts[k]}" for k in NAMES))
 
 
 paper()

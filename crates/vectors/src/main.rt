@@ -5,6 +5,18 @@ mod print;
 
 fn main() {
     codec::paper();
-    codec::limits();
-    codec::every_pcb();
+    codec::long(254);
+    codec::long(255);
+    codec::built(254);
+    codec::built(255);
+    codec::size(0x0F);
+    codec::size(0x10);
+    codec::size(0xFE);
+    codec::size(0xFF);
+    codec::every_pcb(b"LEN 0, LRC right:", 0, 0);
+    codec::every_pcb(b"LEN 0, LRC wrong:", 0, 1);
+    codec::every_pcb(b"LEN 1, LRC right:", 1, 0);
+    codec::every_pcb(b"LEN 1, LRC wrong:", 1, 1);
+    codec::every_pcb(b"LEN 2, LRC right:", 2, 0);
+    codec::every_pcb(b"LEN 2, LRC wrong:", 2, 1);
 }

@@ -5,10 +5,6 @@ pub(crate) fn text(s: &[u8]) {
     io::write_all(1, s);
 }
 
-pub(crate) fn number(n: u64) {
-    io::print_decimal(1, n);
-}
-
 // A byte as two hexadecimal digits, behind a space.
 pub(crate) fn byte(b: u8) {
     text(b" ");
@@ -23,20 +19,21 @@ pub(crate) fn bytes(s: &[u8]) {
     }
 }
 
-fn more_or_last(more: bool) {
-    if more {
-        text(b" more");
-    } else {
-        text(b" last");
-    }
+// A number in decimal digits, behind a space.
+pub(crate) fn number(n: u64) {
+    text(b" ");
+    io::print_decimal(1, n);
 }
 
 pub(crate) fn event(e: Event) {
     match e {
         Event::I { number, more } => {
-            text(b"I");
+            if more {
+                text(b"I more");
+            } else {
+                text(b"I last");
+            }
             byte(number);
-            more_or_last(more);
         }
         Event::R { number } => {
             text(b"R");

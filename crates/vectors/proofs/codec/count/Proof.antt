@@ -14,14 +14,11 @@ abbrev μ-loop : tie.MeasureT-loop
 loop-holds : tie.Need-loop-holds Inv-loop μ-loop
 loop-holds c = omega arith
 
-cast-kind-read : tie.Need-cast-kind-read Inv-loop μ-loop
-cast-kind-read c = omega arith
+cast-is-kind : tie.Need-cast-is-kind Inv-loop μ-loop
+cast-is-kind c = omega arith
 
-kind-read-requires : tie.Need-kind-read-requires Inv-loop μ-loop
-kind-read-requires c κs = search needs
-
-one-if-same-requires : tie.Need-one-if-same-requires Inv-loop μ-loop
-one-if-same-requires c κs = search needs
+is-kind-requires : tie.Need-is-kind-requires Inv-loop μ-loop
+is-kind-requires c κs = search needs
 
 add-n : tie.Need-add-n Inv-loop μ-loop
 add-n c = omega arith
@@ -45,9 +42,8 @@ count-spec =
     Inv-loop
     μ-loop
     loop-holds
-    cast-kind-read
-    kind-read-requires
-    one-if-same-requires
+    cast-is-kind
+    is-kind-requires
     add-n
     add-pcb
     loop-less
