@@ -90,6 +90,7 @@ def limits():
 
 
 def every_pcb():
+    print("every PCB as " + ", ".join(NAMES))
     for n in (0, 1, 2):
         for word, fault in (("right", 0), ("wrong", 1)):
             counts = dict.fromkeys(NAMES, 0)

@@ -1,8 +1,8 @@
 -- Laws of the blocks that are built: what the builder's writes leave. Assumes nothing.
 use mathlib.Core.Path.{_≡_, refl, sym, ap, _∙_}
-use mathlib.Core.List.{List, [], _∷_, _++_}
+use mathlib.Core.List.{List, [], _∷_}
 use mathlib.Core.Bool.{Bool, true, false, cond}
-use Prim.Native.Nat.{ℕ, zero, suc, _+_, _-_, _≤_, _<_}
+use Prim.Native.Nat.{ℕ, zero, suc, _+_, _-_, _≤_}
 use native.Mathlib.Omega.{arith}
 use lib.Dec.{leb}
 use lib.ListN.{length, getD, take, drop, length-append}
@@ -11,7 +11,7 @@ use borrow.Author.Tests.{le-leb, eq-eqb, leb-true}
 use Rattle.lent.specs.Place.{window, splice}
 use Rattle.lent.proofs.PlaceLaws.{length-splice, window-same, window-after, splice-append}
 use Rattle.lent.proofs.Cases.{cond-case, and-right}
-use Rattle.block.specs.Check.{checkLength, checkOf}
+use Rattle.block.specs.Check.{checkOf}
 use Rattle.block.specs.Block.{infAt, frame, infPart, iPcb, rPcb, headOf, blockOf}
 use Rattle.block.specs.Event.{between, inRange, sortOf, namedOf, infOf}
 use Rattle.block.specs.Reader.{whole, bytesOf, readOf, infRead}

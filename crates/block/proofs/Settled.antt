@@ -1,5 +1,5 @@
 -- Each public function's promise settles its answer and every byte behind its `&mut`. Assumes nothing.
-use mathlib.Core.Path.{_≡_, sym, _∙_}
+use mathlib.Core.Path.{sym, _∙_}
 use denote.Ref.{now}
 use Rattle.lent.proofs.Settles.{Settles}
 use Rattle.block.proofs.check.lrc.Kinds as lrc-kinds

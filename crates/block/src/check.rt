@@ -1,6 +1,5 @@
 // The check that ends a block. Its length and its function stand here and nowhere else.
 ghost use mathlib.Core.Path.{_≡_};
-ghost use lib.ListN.{length};
 ghost use Rattle.lent.specs.Place.{window, splice};
 ghost use Rattle.block.specs.Lrc.{lrcOf};
 ghost use Rattle.block.specs.Check.{checkOf, checkRight};

@@ -1,12 +1,12 @@
 -- Laws of numbers as bytes, over the width: what was written is read, here and elsewhere. Assumes nothing.
 use mathlib.Core.Path.{_≡_, refl, sym, ap, ap₂, _∙_}
-use mathlib.Core.List.{List, [], _∷_, _++_}
+use mathlib.Core.List.{List}
 use Prim.Native.Nat.{ℕ, zero, suc, _+_, _*_, _/_, _%_, _^_, _≤_, _<_}
 use native.Mathlib.Nat.{pow-suc, mod-eq-of-lt, div-add-mod', one-le-pow, mod-lt, mod-one, add-mul, mul-assoc, mul-comm, mul-le-mul-right, add-mul-mod-self-right}
 use native.Mathlib.Omega.{arith}
 use lib.ListN.{length, getD}
 use borrow.Author.Tests.{le-leb, lt-leb}
-use Rattle.lent.specs.Place.{within, window, splice}
+use Rattle.lent.specs.Place.{window, splice}
 use Rattle.lent.specs.Number.{numberOf, bytesOf, numberAt}
 use Rattle.lent.proofs.PlaceLaws.{length-window, window-none, window-cons, length-splice, window-same, window-before, window-after}
 

@@ -8,8 +8,8 @@ use native.Mathlib.Numerals.{add-one}
 use native.Mathlib.Omega.{arith}
 use lib.Dec.{leb}
 use lib.ListN.{length, take, drop, getD, set, length-append, length-take, length-drop, take-append-drop, drop-of-length-le}
-use lib.Seq.{take-append-le, drop-append-le, drop-append-add, take-at, drop-at, drop-cons, getD-drop, getD-take, drop-drop, take-take, take-length, take-nil, length-take-le, paste, append-snoc, set-split, set-out}
-use borrow.Author.Tests.{le-leb, lt-leb, leb-true, leb-false}
+use lib.Seq.{take-append-le, drop-append-le, drop-append-add, take-at, drop-cons, getD-drop, getD-take, drop-drop, take-length, take-nil, length-take-le, paste, append-snoc, set-split, set-out}
+use borrow.Author.Tests.{le-leb, lt-leb, leb-true}
 use borrow.Rule.Slice.PartMut.{putMid}
 use Rattle.lent.specs.Place.{within, window, splice}
 use Rattle.lent.proofs.Cases.{cond-case, le-or-lt}

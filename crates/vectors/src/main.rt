@@ -13,6 +13,7 @@ fn main() {
     codec::size(0x10);
     codec::size(0xFE);
     codec::size(0xFF);
+    print::text(b"every PCB as I, R, IFS request, IFS response, abort, WTX, EDC, other\n");
     codec::every_pcb(b"LEN 0, LRC right:", 0, 0);
     codec::every_pcb(b"LEN 0, LRC wrong:", 0, 1);
     codec::every_pcb(b"LEN 1, LRC right:", 1, 0);

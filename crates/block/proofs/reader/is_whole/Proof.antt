@@ -3,8 +3,6 @@ use borrow.Author.Tests.{lt-leb, le-leb, eq-eqb, ne-eqb}
 use mathlib.Core.Path.{sym, ap, _∙_}
 use Prim.Native.Nat.{ℕ, _+_}
 use Rattle.block.specs.Reader.{whole}
-use lib.ListN.{length, getD}
-use denote.Ref.{now}
 use borrow.Author.Needs.{needs}
 use Rattle.block.proofs.reader.is_whole.Statement.{statement}
 use Rattle.block.proofs.reader.is_whole.Tie as tie
