@@ -154,3 +154,10 @@ abort-back = back 0xC2 [] Abort (omega arith) refl refl
 pub wtx-back : (v : ℕ) → 0x01 ≤ v → v ≤ 0xFF → ReadsBack 0xC3 (v ∷ []) (Wtx v)
 unfolding namedOf
 wtx-back v l u = back 0xC3 (v ∷ []) (Wtx v) (omega arith) refl (in-between 0x01 v 0xFF l u)
+
+-- and so does what the builder leaves at the front of any output that holds the block
+pub built-reads : (out : List ℕ) (p : ℕ) (inf : List ℕ) (e : Event) → fitsIn out inf ≡ true → ReadsBack p inf e
+    → (let w = window (builtOut out p inf) 0 (builtLength out inf) in (readOf 0 w ≡ e) × (infRead 0 w ≡ inf))
+built-reads out p inf e h b =
+    let w = built-front out p inf h in
+    (ap (readOf 0) w ∙ b .block, ap (infRead 0) w ∙ b .part)
