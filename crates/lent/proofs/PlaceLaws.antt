@@ -54,10 +54,6 @@ front p q b n h =
     ap (take n) (drop-append-le b p q (omega arith))
     ∙ take-append-le n (drop b p) q (omega (arith, length-drop b p))
 
-pub window-front : (p q : List ℕ) (b n : ℕ) → b + n ≤ length p → window (p ++ q) b n ≡ window p b n
-unfolding window
-window-front = front
-
 -- ---- a part that was written
 
 -- xs over t from a place where it fits

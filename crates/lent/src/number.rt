@@ -10,10 +10,7 @@ ghost use Rattle.lent.specs.Number.{bytesOf, numberAt};
 pub fn get8(t: &[u8], a: usize) -> u8
     ensures { λ r. ⌜ r ≡ getD (now (t .entry)) a 0 ⌝ }
 {
-    if t.len() <= a {
-        return 0;
-    }
-    t[a]
+    if t.len() <= a { 0 } else { t[a] }
 }
 
 // Writes v at a; answers whether it lies within t.

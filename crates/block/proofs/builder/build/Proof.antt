@@ -1,14 +1,20 @@
 -- `block::builder::build`: nothing where a test refuses, and what `write` ensures past both. Assumes nothing.
-use borrow.Author.Tests.{lt-leb, le-leb}
+use Prim.Native.Nat.{_+_}
 use mathlib.Core.Path.{sym, _∙_}
-use Rattle.block.specs.Builder.{builtLength, builtOut}
+use native.Mathlib.Omega.{arith}
+use lib.ListN.{length}
+use denote.Ref.{now}
 use borrow.Author.Needs.{needs}
+use borrow.Author.Tests.{lt-leb, le-leb}
+use Rattle.block.specs.Block.{frame}
+use Rattle.block.specs.Builder.{builtLength, builtOut}
 use Rattle.block.proofs.builder.build.Statement.{statement}
 use Rattle.block.proofs.builder.build.Tie as tie
 
 returns : tie.Need-returns
 unfolding builtLength builtOut
-returns c = let e = lt-leb _ _ (c .if1 .taken) in
+returns c = let n = length (now (c .before .before .before .args .inf)) in
+    let e = lt-leb n 254 (omega arith) in
     (simp e, simp e)
 
 add-if2 : tie.Need-add-if2
@@ -16,8 +22,10 @@ add-if2 c = search needs
 
 returns-2 : tie.Need-returns-2
 unfolding builtLength builtOut
-returns-2 c = let e = le-leb _ _ (c .before .if1 .left) in
-    let f = lt-leb _ _ (c .if2 .taken) in
+returns-2 c = let a = c .before .before .before .before .args in
+    let n = length (now (a .inf)) in
+    let e = le-leb n 254 (omega arith) in
+    let f = lt-leb (frame + n) (length (now (a .out))) (omega arith) in
     (simp (e, f), simp (e, f))
 
 write-requires : tie.Need-write-requires

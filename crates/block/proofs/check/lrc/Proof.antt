@@ -1,5 +1,5 @@
 -- `block::check::lrc`: what is folded so far, with the fold of what is left, is the fold of the whole. Assumes nothing.
-use Prim.Native.Nat.{_≤_, _-_}
+use Prim.Native.Nat.{_-_}
 use mathlib.Core.Path.{_≡_, sym, _∙_}
 use native.Mathlib.Omega.{arith}
 use lib.ListN.{length, drop}
@@ -11,13 +11,13 @@ use Rattle.block.proofs.check.lrc.Statement.{statement}
 use Rattle.block.proofs.check.lrc.Tie as tie
 
 abbrev Inv-loop : tie.InvT-loop
-Inv-loop s x₀ i₀ x i = (i ≤ length s) × (bitXor x (lrcOf (drop i s)) ≡ lrcOf s)
+Inv-loop s x₀ i₀ x i = bitXor x (lrcOf (drop i s)) ≡ lrcOf s
 
 abbrev μ-loop : tie.MeasureT-loop
 μ-loop s x₀ i₀ x i = length s - i
 
 loop-holds : tie.Need-loop-holds Inv-loop μ-loop
-loop-holds c = (omega arith, xor-zero-l (lrcOf (now (c .args .s))))
+loop-holds c = xor-zero-l (lrcOf (now (c .args .s)))
 
 shared-slice-read-x : tie.Need-shared-slice-read-x Inv-loop μ-loop
 shared-slice-read-x c = omega arith
@@ -31,11 +31,11 @@ loop-less c = omega arith
 loop-again : tie.Need-loop-again Inv-loop μ-loop
 loop-again c =
     let l = c .before .before .loop in
-    (omega arith, lrc-turn (now (c .before .before .before .args .s)) (l .x) (l .i) (omega arith) ∙ l .inv .1)
+    lrc-turn (now (c .before .before .before .args .s)) (l .x) (l .i) (omega arith) ∙ l .inv
 
 returns : tie.Need-returns Inv-loop μ-loop
 returns c =
-    sym (lrc-end (now (c .before .before .args .s)) (c .before .loop .x) (c .before .loop .i) (omega arith)) ∙ c .before .loop .inv .1
+    sym (lrc-end (now (c .before .before .args .s)) (c .before .loop .x) (c .before .loop .i) (omega arith)) ∙ c .before .loop .inv
 
 pub lrc-spec : {M : Type 1} → statement M
 lrc-spec =

@@ -6,14 +6,14 @@ use denote.Ref.{now}
 use Rattle.lent.proofs.number.get8.Statement.{statement}
 use Rattle.lent.proofs.number.get8.Tie as tie
 
-returns : tie.Need-returns
-returns c = sym (List·getD-eq-default (now (c .before .args .t)) 0 (c .if1 .taken))
-
 shared-slice-read-result : tie.Need-shared-slice-read-result
 shared-slice-read-result c = search needs
+
+returns : tie.Need-returns
+returns c = sym (List·getD-eq-default (now (c .before .args .t)) 0 (c .if1 .taken))
 
 returns-2 : tie.Need-returns-2
 returns-2 c = search needs
 
 pub get8-spec : {M : Type 1} → statement M
-get8-spec = tie.close (tie.spec returns shared-slice-read-result returns-2)
+get8-spec = tie.close (tie.spec shared-slice-read-result returns returns-2)
