@@ -8,7 +8,7 @@ use native.Mathlib.Numerals.{add-one}
 use native.Mathlib.Omega.{arith}
 use lib.Dec.{leb}
 use lib.ListN.{length, take, drop, getD, set, length-append, length-take, length-drop, take-append-drop, drop-of-length-le}
-use lib.Seq.{take-append-le, drop-append-le, drop-append-add, take-at, drop-cons, getD-drop, getD-take, drop-drop, take-length, take-nil, length-take-le, paste, append-snoc, set-split, set-out}
+use lib.Seq.{take-all, take-append-le, drop-append-le, drop-append-add, take-at, drop-cons, getD-drop, getD-take, drop-drop, take-length, take-nil, length-take-le, paste, append-snoc, set-split, set-out}
 use borrow.Author.Tests.{le-leb, lt-leb, leb-true}
 use borrow.Rule.Slice.PartMut.{putMid}
 use Rattle.lent.specs.Place.{within, window, splice}
@@ -47,6 +47,11 @@ window-cons t a n h = rw (add-one, drop-cons t a 0 h)
 pub window-whole : (t : List ℕ) → window t 0 (length t) ≡ t
 unfolding window
 window-whole t = take-length t
+
+-- a part that reaches the end
+pub window-rest : (t : List ℕ) (a n : ℕ) → length t ≤ a + n → window t a n ≡ drop a t
+unfolding window
+window-rest t a n h = take-all n (drop a t) (omega (arith, length-drop a t))
 
 -- a part that ends in the first of two lists
 front : (p q : List ℕ) (b n : ℕ) → b + n ≤ length p → take n (drop b (p ++ q)) ≡ take n (drop b p)

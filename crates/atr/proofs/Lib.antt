@@ -1,0 +1,5 @@
+-- Laws of the ATR reader.
+pub mod WalkLaws
+pub mod RatesLaws
+pub mod ReportLaws
+pub mod Vectors

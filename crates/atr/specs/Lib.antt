@@ -1,0 +1,7 @@
+-- "Reading an ATR" of document 01.
+pub mod Walk
+pub mod Rules
+pub mod Rates
+pub mod Report
+pub mod Answer
+pub mod Vectors
