@@ -2,4 +2,6 @@
 pub mod WalkLaws
 pub mod RatesLaws
 pub mod ReportLaws
+pub mod AnswerLaws
+pub mod Settled
 pub mod Vectors

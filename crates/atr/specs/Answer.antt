@@ -1,5 +1,5 @@
 -- "Reading an ATR" of document 01: the answer to it.
-use Prim.Native.Nat.{ℕ}
+use Prim.Native.Nat.{ℕ, _≤_}
 use mathlib.Core.Bool.{cond}
 use mathlib.Core.List.{List}
 use Rattle.atr.specs.declared.walk.Interface.{Interface}
@@ -8,7 +8,7 @@ use Rattle.atr.specs.declared.reader.Answer.{Answer}
 use Rattle.atr.specs.declared.reader.Answer.the-variants.{Refused, Taken}
 use Rattle.atr.specs.Walk.{interfaceOf, endOf, historical}
 use Rattle.atr.specs.Rules.{startWrong, lengthWrong, checkWrong, notT1, parameterRefused}
-use Rattle.atr.specs.Report.{reportOf}
+use Rattle.atr.specs.Report.{reportOf, Bounded}
 
 -- the lowest number that applies is given, and none is given otherwise
 
@@ -25,7 +25,7 @@ answerOf s =
     (cond (checkWrong s (endOf s .tck)) (Refused 10)
     (onTerms (interfaceOf s) (historical s))))
 
--- the paper's number and values for each case: a refusal returns its number, its other fields 0; other answers have
+-- ---- the paper's number and values for each case: a refusal returns its number, its other fields 0; other answers have
 -- number 0
 abbrev pub numberIn : Answer → ℕ
 numberIn (Refused n) = n
@@ -37,3 +37,9 @@ zeros = record { ifsc = 0; distance = 0; cwt = 0; bwt = 0; used = 0; historical 
 abbrev pub reportIn : Answer → Report
 reportIn (Refused n) = zeros
 reportIn (Taken r) = r
+
+-- ---- what each case tells
+
+abbrev pub Told : Answer → Type 0
+Told (Refused n) = (8 ≤ n) × (n ≤ 12)
+Told (Taken r) = Bounded r

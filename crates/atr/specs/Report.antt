@@ -1,5 +1,5 @@
 -- "Reading an ATR" of document 01: what attach reports.
-use Prim.Native.Nat.{ℕ, _+_, _*_, _^_}
+use Prim.Native.Nat.{ℕ, _+_, _*_, _^_, _≤_}
 use mathlib.Core.Bool.{cond, _&&_}
 use lib.Dec.{eqb}
 use Rattle.atr.specs.declared.walk.Interface.{Interface}
@@ -29,3 +29,13 @@ reportOf a h =
       f = fOffered (a .ta1);
       d = dOffered (a .ta1);
     }
+
+-- ---- what holds of every report
+
+pub record Bounded (r : Report) : Type 0 where
+  pub ifsc : (16 ≤ r .ifsc) × (r .ifsc ≤ 254)
+  pub distance : (11 ≤ r .distance) × (r .distance ≤ 43)
+  pub cwt : (12 ≤ r .cwt) × (r .cwt ≤ 43)
+  pub bwt : (971 ≤ r .bwt) × (r .bwt ≤ 15371)
+  pub used : (1 ≤ r .used) × (r .used ≤ 4)
+  pub historical : r .historical ≤ 15
