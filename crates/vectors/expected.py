@@ -1,10 +1,17 @@
 #!/usr/bin/env python3
-"""What `vectors` must print, worked out from document 01 alone ("Reading a block" and P7 to P10).
+"""What `vectors` must print, worked out from document 01 alone ("Reading an ATR", "Reading a block", P1 to P10).
 
-Nothing here is taken from the Rattle side or from its output: the blocks of P7 to P10 stand as the paper prints
-them, and the rest goes by a reading of the paper's sentences. docs/VECTORS.md says more.
+Nothing here is taken from the Rattle side or from its output: what the paper prints stands as it prints it, and the
+rest goes by a reading of the paper's sentences. docs/VECTORS.md says more.
+
+    expected.py          what the program prints
+    expected.py stdin    what it reads: the ATRs of atrs.txt, each behind its length in one byte
 """
+import sys
 from functools import reduce
+from pathlib import Path
+
+LIST = Path(__file__).with_name("atrs.txt")
 
 I_CODES = [0x00, 0x20, 0x40, 0x60]
 R_CODES = [0x80, 0x81, 0x82, 0x90, 0x91, 0x92]
@@ -47,6 +54,91 @@ def read(kind, block):
     return other
 
 
+# P1 to P6 with what the paper says of each
+PAPER = [
+    ("3B E0 00 00 81 31 20 45 35", ["IFSC 32", "distance 12", "CWT 43", "BWT 15371"]),
+    ("3B E0 00 FF 81 31 20 40 CF", ["distance 11"]),
+    ("3B E0 00 01 81 31 20 40 31", ["refused 12"]),
+    ("3B F0 13 00 00 91 01 31 FE 45 F9", ["IFSC 254", " D 4 "]),
+    ("", ["refused 9"]),
+    ("3C", ["refused 8"]),
+]
+
+F = [372, 372, 558, 744, 1116, 1488, 1860, 0, 0, 512, 768, 1024, 1536, 2048, 0, 0]
+D = [0, 1, 2, 4, 8, 16, 32, 64, 12, 20, 0, 0, 0, 0, 0, 0]
+
+
+def walked(atr):
+    """The interface bytes by name, whether TCK is there, and what lies behind the groups; None if the bytes end first."""
+    named, number, rest = {}, 1, iter(atr[2:])
+    announcer, tck = atr[1], False
+    while announcer is not None:
+        for letter, bit in zip("ABCD", (5, 6, 7, 8)):
+            if announcer >> (bit - 1) & 1:
+                value = next(rest, None)
+                if value is None:
+                    return None
+                named[f"T{letter}{number}"] = value
+        announcer = named.get(f"TD{number}")
+        tck = tck or (announcer is not None and announcer % 16 != 0)
+        number += 1
+    return named, tck, list(rest)
+
+
+def on_terms(get):
+    """11 and 12, in the paper's order; else None."""
+    ta1, tc1, td1, ta2, td2 = (get(n) for n in ("TA1", "TC1", "TD1", "TA2", "TD2"))
+    ta3, tb3, tc3 = (get(n) for n in ("TA3", "TB3", "TC3"))
+    if td1 is None or td1 & 15 != 1 or (td2 is not None and td2 & 15 != 1):
+        return 11
+    if ta2 is not None and (ta2 & 0b00010000 or ta2 & 15 != 1):
+        return 11
+    if None not in (ta1, ta2) and ta1 not in (0x11, 0x12, 0x13):
+        return 12
+    if ta3 is not None and (ta3 <= 0x0F or ta3 == 0xFF):
+        return 12
+    if tb3 is None or tb3 >> 4 > 4 or tb3 & 15 > 5 or 2 ** (tb3 & 15) < guard(tc1) + 1:
+        return 12
+    return 12 if tc3 not in (None, 0) else None
+
+
+def guard(tc1):
+    """N: TC1, absent 0, and -1 for FF."""
+    return {None: 0, 0xFF: -1}.get(tc1, tc1)
+
+
+def attached(atr):
+    """What an ATR is read as, in words."""
+    if atr and atr[0] not in (0x3B, 0x3F):
+        return "refused 8"
+    walk = walked(atr) if len(atr) >= 2 else None
+    if walk is None or len(atr) > 33 or len(walk[2]) != atr[1] % 16 + walk[1]:
+        return "refused 9"
+    named, tck, _ = walk
+    if tck and xor(atr[1:]) != 0:
+        return "refused 10"
+    number = on_terms(named.get)
+    if number:
+        return f"refused {number}"
+    ta1, tb3 = named.get("TA1"), named["TB3"]
+    used = {0x11: 1, 0x12: 2, 0x13: 4}[ta1] if "TA1" in named and "TA2" in named else 1
+    f, d = (372, 1) if ta1 is None else (F[ta1 >> 4], D[ta1 & 15])
+    return (
+        f"IFSC {named.get('TA3', 32)} distance {12 + guard(named.get('TC1'))} CWT {2 ** (tb3 & 15) + 11}"
+        f" BWT {960 * 2 ** (tb3 >> 4) + 11} D {used} historical {atr[1] % 16} offers F {f} D {d}"
+    )
+
+
+def listed():
+    """The ATRs of the list, without its remarks."""
+    lines = (line.split("#")[0] for line in LIST.read_text().splitlines())
+    return [list(bytes.fromhex(line)) for line in lines if line.strip()]
+
+
+def card(atr):
+    print(f"ATR{hexed(atr)}: {attached(atr)}")
+
+
 def hexed(bs):
     return "".join(f" {b:02x}" for b in bs)
 
@@ -62,6 +154,11 @@ def receives(kind, printed):
 
 
 def paper():
+    print("P1 to P6")
+    for printed, words in PAPER:
+        atr = list(bytes.fromhex(printed))
+        assert all(word in attached(atr) for word in words), printed
+        card(atr)
     print("P7")
     sends("00 C1 01 FE 3E")
     receives(0, "00 E1 01 FE 1E")
@@ -101,6 +198,12 @@ def every_pcb():
             print(f"LEN {n}, LRC {word}:" + "".join(f" {counts[k]}" for k in NAMES))
 
 
-paper()
-limits()
-every_pcb()
+if sys.argv[1:] == ["stdin"]:
+    sys.stdout.buffer.write(b"".join(bytes([len(a), *a]) for a in listed()))
+else:
+    paper()
+    limits()
+    every_pcb()
+    print("the list")
+    for a in listed():
+        card(a)

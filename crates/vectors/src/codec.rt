@@ -43,7 +43,7 @@ pub(crate) fn paper() {
 }
 
 // An I-block of LEN zeros, its length and its LRC right: LEN is the exclusive or of it all.
-pub(crate) fn long(len: u8) {
+fn long(len: u8) {
     let mut s = [0u8; 260];
     let n = len as usize;
     lent::put8(&mut s, 2, len);
@@ -54,7 +54,7 @@ pub(crate) fn long(len: u8) {
 }
 
 // How many bytes are built for an INF of LEN zeros.
-pub(crate) fn built(len: u8) {
+fn built(len: u8) {
     let mut s = [0u8; 260];
     let zeros = [0u8; 260];
     let n = block::build(&mut s, 0x00, lent::part(&zeros, 0, len as usize));
@@ -64,13 +64,25 @@ pub(crate) fn built(len: u8) {
 }
 
 // A card's request for an IFS of one byte.
-pub(crate) fn size(v: u8) {
+fn size(v: u8) {
     let mut s = [0u8; 5];
     let inf = [v];
     block::build(&mut s, 0xC1, &inf);
     super::print::text(b"IFS byte");
     super::print::byte(v);
     shown(0, &s);
+}
+
+// The limits of LEN, and of the IFS byte.
+pub(crate) fn limits() {
+    long(254);
+    long(255);
+    built(254);
+    built(255);
+    size(0x0F);
+    size(0x10);
+    size(0xFE);
+    size(0xFF);
 }
 
 fn kind_of(e: Event) -> u8 {
@@ -115,7 +127,7 @@ fn count(kind: u8, len: u8, fault: u8) -> u64 {
 }
 
 // The counts of the eight kinds, in the order of `kind_of`.
-pub(crate) fn every_pcb(name: &[u8], len: u8, fault: u8) {
+fn every_pcb(name: &[u8], len: u8, fault: u8) {
     super::print::text(name);
     let mut kind: u8 = 0;
     while kind < 8 {
@@ -123,4 +135,14 @@ pub(crate) fn every_pcb(name: &[u8], len: u8, fault: u8) {
         kind += 1;
     }
     super::print::text(b"\n");
+}
+
+pub(crate) fn every_code() {
+    super::print::text(b"every PCB as I, R, IFS request, IFS response, abort, WTX, EDC, other\n");
+    every_pcb(b"LEN 0, LRC right:", 0, 0);
+    every_pcb(b"LEN 0, LRC wrong:", 0, 1);
+    every_pcb(b"LEN 1, LRC right:", 1, 0);
+    every_pcb(b"LEN 1, LRC wrong:", 1, 1);
+    every_pcb(b"LEN 2, LRC right:", 2, 0);
+    every_pcb(b"LEN 2, LRC wrong:", 2, 1);
 }

@@ -1,4 +1,6 @@
 // Text on standard output.
+use atr::Answer;
+use atr::Report;
 use block::Event;
 
 pub(crate) fn text(s: &[u8]) {
@@ -54,5 +56,29 @@ pub(crate) fn event(e: Event) {
         }
         Event::Edc => text(b"EDC"),
         Event::Other => text(b"other"),
+    }
+}
+
+// A name and a number.
+fn figure(name: &[u8], n: u64) {
+    text(name);
+    number(n);
+}
+
+fn report(r: Report) {
+    figure(b"IFSC", r.ifsc as u64);
+    figure(b" distance", r.distance as u64);
+    figure(b" CWT", r.cwt as u64);
+    figure(b" BWT", r.bwt as u64);
+    figure(b" D", r.used as u64);
+    figure(b" historical", r.historical as u64);
+    figure(b" offers F", r.f as u64);
+    figure(b" D", r.d as u64);
+}
+
+pub(crate) fn answer(a: Answer) {
+    match a {
+        Answer::Refused { number: n } => figure(b"refused", n as u64),
+        Answer::Taken { report: r } => report(r),
     }
 }
