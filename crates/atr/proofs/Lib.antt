@@ -1,5 +1,6 @@
 -- Laws of the ATR reader.
 pub mod WalkLaws
+pub mod LaidLaws
 pub mod RatesLaws
 pub mod ReportLaws
 pub mod AnswerLaws

@@ -17,7 +17,7 @@ use Rattle.atr.specs.Walk.{absent, Letter, A, B, C, D, said, announced, 
 
 -- ---- a letter whose bit is b
 
-grown : ℕ → Walk → Walk
+unfoldable pub grown : ℕ → Walk → Walk
 grown n w = record { groups = w .groups; size = n + w .size }
 
 getD-past : (s : List ℕ) (p d : ℕ) → length s ≤ p → getD s p d ≡ d
@@ -72,11 +72,11 @@ behind-none (suc zero) = refl
 behind-none (suc (suc i)) = refl
 
 -- a group with no TD
-headed : (ta tb tc : ℕ) → Group
+unfoldable pub headed : (ta tb tc : ℕ) → Group
 headed ta tb tc = record { ta = ta; tb = tb; tc = tc; td = absent }
 
 -- nothing is due
-walk-over : (s : List ℕ) (g : Group) → walk s [] g ≡ record { groups = g ∷ []; size = 0 }
+pub walk-over : (s : List ℕ) (g : Group) → walk s [] g ≡ record { groups = g ∷ []; size = 0 }
 unfolding walk
 walk-over [] g = refl
 walk-over (x ∷ s) g = refl
