@@ -1,37 +1,38 @@
 -- Laws of the walk: the group at a place, and where the walk goes on from it. Assumes nothing.
 use mathlib.Core.Path.{_≡_, refl, sym, ap, ap₂, subst, subst⁻¹, _∙_}
-use mathlib.Core.Bool.{Bool, true, false, cond, not, _||_}
+use mathlib.Core.Bool.{false, _||_}
 use mathlib.Core.List.{List, [], _∷_}
-use Prim.Native.Nat.{ℕ, zero, suc, _+_, _*_, _/_, _%_, _≤_, _<_}
+use Prim.Native.Nat.{ℕ, zero, suc, _+_, _*_, _/_, _≤_, _<_}
 use native.Mathlib.Nat.{add-zero, zero-add}
 use native.Mathlib.Numerals.{add-one}
 use native.Mathlib.Omega.{arith}
 use lib.Dec.{eqb}
 use lib.ListN.{length, getD, drop, drop-of-length-le}
 use lib.Seq.{drop-cons}
-use borrow.Author.Tests.{ne-eqb, eq-eqb}
+use borrow.Author.Tests.{ne-eqb}
 use Rattle.lent.proofs.Cases.{cond-case, le-or-lt, eq-or-ne}
 use Rattle.block.specs.Block.{bit}
 use Rattle.atr.specs.declared.walk.Group.{Group}
-use Rattle.atr.specs.Walk.{absent, Letter, A, B, C, D, said, announced, none, put, Walk, longer, after, walk, walkFrom, walkOf, behind, someOther, otherThan0, fieldAt}
+use Rattle.atr.specs.Walk.{absent, Letter, A, B, C, D, said, announced, none, put, Walk, longer, after, walk, walkFrom, behind, someOther, otherThan0, fieldAt}
 
--- ---- a letter whose bit is b
+-- ---- a letter, by its bit
 
-unfoldable pub grown : ℕ → Walk → Walk
+-- a walk with n bytes more
+grown : ℕ → Walk → Walk
 grown n w = record { groups = w .groups; size = n + w .size }
 
+-- past the end of the bytes
 getD-past : (s : List ℕ) (p d : ℕ) → length s ≤ p → getD s p d ≡ d
 getD-past [] p d h = refl
 getD-past (x ∷ s) zero d h = absurd (omega arith)
 getD-past (x ∷ s) (suc p) d h = getD-past s p d (omega arith)
 
--- and within it, whatever is said of bytes past the end
+-- and within them
 pub getD-in : (s : List ℕ) (p d e : ℕ) → p < length s → getD s p d ≡ getD s p e
 getD-in [] p d e h = absurd (omega arith)
 getD-in (x ∷ s) zero d e h = refl
 getD-in (x ∷ s) (suc p) d e h = getD-in s p d e (omega arith)
 
--- past the end nothing is there
 pub field-past : (s : List ℕ) (p b : ℕ) → length s ≤ p → fieldAt s p b ≡ absent
 unfolding fieldAt
 field-past s p b h = cond-case (λ (x : ℕ). x ≡ absent) (eqb b 1) (λ _. getD-past s p absent h) (λ _. refl)
@@ -72,11 +73,11 @@ behind-none (suc zero) = refl
 behind-none (suc (suc i)) = refl
 
 -- a group with no TD
-unfoldable pub headed : (ta tb tc : ℕ) → Group
+headed : (ta tb tc : ℕ) → Group
 headed ta tb tc = record { ta = ta; tb = tb; tc = tc; td = absent }
 
 -- nothing is due
-pub walk-over : (s : List ℕ) (g : Group) → walk s [] g ≡ record { groups = g ∷ []; size = 0 }
+walk-over : (s : List ℕ) (g : Group) → walk s [] g ≡ record { groups = g ∷ []; size = 0 }
 unfolding walk
 walk-over [] g = refl
 walk-over (x ∷ s) g = refl
@@ -114,6 +115,10 @@ then-grown : (k : ℕ) {w : Walk} {g : Group} {n : ℕ} {v : Walk} → Then w g 
 unfolding grown
 then-grown k t = record { first = t .first; later = t .later; size = omega (arith, t .size); other = t .other }
 
+then-same : {w x : Walk} {g : Group} {n m : ℕ} {u v : Walk} → w ≡ x → n ≡ m → u ≡ v → Then w g n u → Then x g m v
+then-same {w} {x} {g} {n} {m} {u} {v} d e f t =
+    subst (λ (k : Walk). Then k g m v) d (subst (λ (k : ℕ). Then w g k v) e (subst (Then w g n) f t))
+
 -- ---- the group at a place, by the four bits of what announces it
 
 length-said : (b : ℕ) (l : Letter) (due : List Letter) → b ≤ 1 → length (said b l due) ≡ b + length due
@@ -146,26 +151,61 @@ module _ (y : ℕ) where
           td = fieldAt s (p + bit 5 y + bit 6 y + bit 7 y) (bit 8 y);
         }
 
-    third : Walk
-    third = walk (drop (p + bit 5 y + bit 6 y + bit 7 y) s) (said (bit 8 y) D []) (headed (groupAt .ta) (groupAt .tb) (groupAt .tc))
+    -- where TD stands, if it is announced
+    at-td : ℕ
+    at-td = p + bit 5 y + bit 6 y + bit 7 y
 
-    steps : walkFrom s p y ≡ grown (bit 5 y) (grown (bit 6 y) (grown (bit 7 y) third))
-    unfolding third groupAt headed Step walk
+    three : Group
+    three = headed (groupAt .ta) (groupAt .tb) (groupAt .tc)
+
+    front : Walk → Walk
+    front w = grown (bit 5 y) (grown (bit 6 y) (grown (bit 7 y) w))
+
+    steps : walkFrom s p y ≡ front (walk (drop at-td s) (said (bit 8 y) D []) three)
+    unfolding at-td three front groupAt headed Step walk
     steps =
         step A (λ x t due g. refl) s p _ none (bit 5 y) (omega arith) refl
         ∙ ap (grown (bit 5 y)) (step B (λ x t due g. refl) s (p + bit 5 y) _ _ (bit 6 y) (omega arith) refl)
         ∙ ap (λ (w : Walk). grown (bit 5 y) (grown (bit 6 y) w)) (step C (λ x t due g. refl) s (p + bit 5 y + bit 6 y) _ _ (bit 7 y) (omega arith) refl)
 
+    behind-td : at-td + bit 8 y ≡ p + length (announced y)
+    unfolding at-td
+    behind-td = omega (arith, length-announced)
+
     -- the walk from a place is the group there, and then the walk that its TD announces
     pub group-then : Then (walkFrom s p y) groupAt (length (announced y)) (walkFrom s (p + length (announced y)) (groupAt .td))
-    unfolding third groupAt headed Last
+    unfolding at-td three front groupAt headed Last
     group-then =
-        let size : bit 5 y + (bit 6 y + (bit 7 y + bit 8 y)) ≡ length (announced y) = omega (arith, length-announced) in
-        let place : p + bit 5 y + bit 6 y + bit 7 y + bit 8 y ≡ p + length (announced y) = omega (arith, length-announced) in
-        let t = then-grown (bit 5 y) (then-grown (bit 6 y) (then-grown (bit 7 y) (last _ _ _ s (p + bit 5 y + bit 6 y + bit 7 y) (bit 8 y) (omega arith)))) in
-        subst (λ (w : Walk). Then w groupAt (length (announced y)) (walkFrom s (p + length (announced y)) (groupAt .td))) (sym steps)
-        (subst (λ (n : ℕ). Then (grown (bit 5 y) (grown (bit 6 y) (grown (bit 7 y) third))) groupAt n (walkFrom s (p + length (announced y)) (groupAt .td))) size
-        (subst (λ (q : ℕ). Then (grown (bit 5 y) (grown (bit 6 y) (grown (bit 7 y) third))) groupAt (bit 5 y + (bit 6 y + (bit 7 y + bit 8 y))) (walkFrom s q (groupAt .td))) place t))
+        then-same (sym steps) (omega (arith, length-announced)) (ap (λ (q : ℕ). walkFrom s q (groupAt .td)) behind-td)
+        (then-grown (bit 5 y) (then-grown (bit 6 y) (then-grown (bit 7 y) (last _ _ _ s at-td (bit 8 y) (omega arith)))))
+
+    -- with no TD, that group alone
+    Ends : ℕ → Type 0
+    Ends b = walk (drop at-td s) (said b D []) three ≡ record { groups = put D (fieldAt s at-td b) three ∷ []; size = 0 }
+
+    pub group-last : bit 8 y ≡ 0 → walkFrom s p y ≡ record { groups = groupAt ∷ []; size = length (announced y) }
+    unfolding Ends at-td three front groupAt headed grown fieldAt
+    group-last z =
+        steps
+        ∙ ap front (subst Ends (sym z) (walk-over (drop at-td s) three))
+        ∙ ap (λ (n : ℕ). record { groups = groupAt ∷ []; size = n }) (omega (arith, length-announced))
+
+    -- with a TD that is there, exactly the groups of both
+    Goes : ℕ → Type 0
+    Goes b =
+        walk (drop at-td s) (said b D []) three ≡ longer (after (put D (fieldAt s at-td b) three) (walkFrom s (at-td + b) (fieldAt s at-td b)))
+
+    pub group-next : bit 8 y ≡ 1 → p + length (announced y) ≤ length s
+        → let v = walkFrom s (p + length (announced y)) (groupAt .td) in walkFrom s p y ≡ record { groups = groupAt ∷ v .groups; size = length (announced y) + v .size }
+    unfolding Goes at-td three front groupAt headed grown fieldAt walk
+    group-next q h =
+        let there : at-td < length s = omega (arith, length-announced) in
+        let v : Walk = walkFrom s (at-td + bit 8 y) (groupAt .td) in
+        let goes : Goes 1 = rw (drop-cons s at-td absent there, add-one at-td) in
+        steps
+        ∙ ap front (subst Goes (sym q) goes)
+        ∙ ap (λ (n : ℕ). record { groups = groupAt ∷ v .groups; size = n }) (omega (arith, length-announced))
+        ∙ ap (λ (a : ℕ). record { groups = groupAt ∷ walkFrom s a (groupAt .td) .groups; size = length (announced y) + walkFrom s a (groupAt .td) .size }) behind-td
 
     -- a TD that is there moves the walk on, and lies within the bytes
     on : p + 1 ≤ p + length (announced y) + groupAt .td / 256

@@ -1,6 +1,6 @@
 -- "Reading an ATR" of document 01: when an ATR is refused, number by number.
 use Prim.Native.Nat.{ℕ, _+_, _^_}
-use mathlib.Core.Bool.{Bool, true, false, cond, not, _&&_, _||_}
+use mathlib.Core.Bool.{Bool, cond, not, _&&_, _||_}
 use mathlib.Core.List.{List}
 use lib.Dec.{ltb, leb, eqb}
 use lib.ListN.{length, drop}
@@ -8,7 +8,7 @@ use Rattle.block.specs.Lrc.{lrcOf}
 use Rattle.block.specs.Block.{bit}
 use Rattle.block.specs.Event.{between}
 use Rattle.atr.specs.declared.walk.Interface.{Interface}
-use Rattle.atr.specs.Walk.{high, low, absent, present, ts, historical, endOf, lengthOf}
+use Rattle.atr.specs.Walk.{high, low, present, ts, historical, endOf, lengthOf}
 
 -- ---- 8: the ATR has a first byte and it is neither 3B nor 3F
 

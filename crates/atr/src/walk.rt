@@ -57,7 +57,7 @@ fn field(s: &[u8], p: usize, bit: usize) -> u16
     s[p] as u16
 }
 
-// The group at p that y announces.
+// The group at p that y announces. The bound on p is far beyond any ATR, and lets the sums fit.
 fn group_at(s: &[u8], p: usize, y: u16) -> Group
     requires { ⌜ p ≤ 2000 ⌝ }
     ensures { λ r. ⌜ r ≡ behind 0 (walkFrom (now (s .entry)) p y .groups) ⌝ }
@@ -120,7 +120,7 @@ fn names_other(before: bool, td: u16) -> bool
     td % 16 != 0
 }
 
-// Walks group by group to the end.
+// Walks group by group to the end: each TD that is there moves on by a byte at least.
 pub(crate) fn to_end(s: &[u8]) -> End
     requires { ⌜ length (now s) ≤ 1000 ⌝ }
     ensures { λ r. ⌜ r ≡ endOf (now (s .entry)) ⌝ }
