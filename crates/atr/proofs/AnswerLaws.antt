@@ -1,18 +1,21 @@
 -- Laws of the answer: the number of every refusal, and the bounds of every report. Assumes nothing.
-use mathlib.Core.Path.{_≡_}
-use mathlib.Core.Bool.{false, _&&_, _||_, not}
+use mathlib.Core.Path.{_≡_, refl, sym, ap, _∙_}
+use mathlib.Core.Bool.{Bool, true, false, cond, _&&_, _||_, not}
 use mathlib.Core.List.{List}
 use Prim.Native.Nat.{ℕ, _^_, _≤_, _<_}
 use native.Mathlib.Omega.{arith}
 use lib.Dec.{ltb, leb, eqb}
 use lib.Pow.{pow-mono}
-use borrow.Author.Tests.{ltb-true, ltb-false, leb-false, eqb-false}
+use borrow.Author.Tests.{ltb-true, ltb-false, leb-false, eqb-true, eqb-false}
 use Rattle.lent.proofs.Cases.{cond-case, or-left, or-right}
 use Rattle.atr.specs.declared.walk.Interface.{Interface}
+use Rattle.atr.specs.declared.report.Report.{Report}
+use Rattle.atr.specs.declared.reader.Answer.{Answer}
+use Rattle.atr.specs.declared.reader.Answer.the-variants.{Refused, Taken}
 use Rattle.atr.specs.Walk.{present, historical, interfaceOf, endOf}
 use Rattle.atr.specs.Rules.{startWrong, lengthWrong, checkWrong, notT1, nPlus1, bwi, cwi, speedRefused, sizeRefused, waitRefused, checkRefused, parameterRefused}
 use Rattle.atr.specs.Report.{ifscOf, dInUse, reportOf, Bounded}
-use Rattle.atr.specs.Answer.{onTerms, answerOf, Told}
+use Rattle.atr.specs.Answer.{termsOf, numberOf, zeros, valuesOf, numberIn, reportIn, answered, answerOf, Told}
 
 -- ---- what a rule leaves that does not refuse
 
@@ -75,11 +78,37 @@ bounded a h few e =
 
 -- for every ATR, what its answer tells
 pub answer-told : (s : List ℕ) → Told (answerOf s)
-unfolding answerOf onTerms
+unfolding answerOf numberOf termsOf
 answer-told s =
-    cond-case Told (startWrong s) (λ _. (omega arith, omega arith))
-    (λ _. cond-case Told (lengthWrong s) (λ _. (omega arith, omega arith))
-    (λ _. cond-case Told (checkWrong s (endOf s .tck)) (λ _. (omega arith, omega arith))
-    (λ _. cond-case Told (notT1 (interfaceOf s)) (λ _. (omega arith, omega arith))
-    (λ _. cond-case Told (parameterRefused (interfaceOf s)) (λ _. (omega arith, omega arith))
+    cond-case P (startWrong s) {x = 8} (λ _. (omega arith, omega arith))
+    (λ _. cond-case P (lengthWrong s) {x = 9} (λ _. (omega arith, omega arith))
+    (λ _. cond-case P (checkWrong s (endOf s .tck)) {x = 10} (λ _. (omega arith, omega arith))
+    (λ _. cond-case P (notT1 (interfaceOf s)) {x = 11} (λ _. (omega arith, omega arith))
+    (λ _. cond-case P (parameterRefused (interfaceOf s)) {x = 12} (λ _. (omega arith, omega arith))
     (λ e. bounded (interfaceOf s) (historical s) (omega arith) e)))))
+  where
+    P : ℕ → Type 0
+    P n = Told (answered n (reportOf (interfaceOf s) (historical s)))
+
+-- ---- the paper's number and values
+
+number-in : (n : ℕ) (r : Report) → numberIn (answered n r) ≡ n
+number-in n r = cond-by (eqb n 0) (eqb-true n 0)
+  where
+    cond-by : (t : Bool) → (t ≡ true → n ≡ 0) → numberIn (cond t (Taken r) (Refused n)) ≡ n
+    cond-by true z = sym (z refl)
+    cond-by false z = refl
+
+report-in : (n : ℕ) (r : Report) → reportIn (answered n r) ≡ cond (eqb n 0) r zeros
+report-in n r = cond-by (eqb n 0)
+  where
+    cond-by : (t : Bool) → reportIn (cond t (Taken r) (Refused n)) ≡ cond t r zeros
+    cond-by true = refl
+    cond-by false = refl
+
+-- the answer has them
+pub answer-whole : (s : List ℕ) (x : Answer) → x ≡ answerOf s → (x ≡ answerOf s) × ((numberIn x ≡ numberOf s) × (reportIn x ≡ valuesOf s))
+unfolding answerOf valuesOf
+answer-whole s x e =
+    let r : Report = reportOf (interfaceOf s) (historical s) in
+    (e, (ap numberIn e ∙ number-in (numberOf s) r, ap reportIn e ∙ report-in (numberOf s) r))

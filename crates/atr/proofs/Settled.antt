@@ -5,4 +5,4 @@ use Rattle.atr.proofs.reader.read.Kinds as read-kinds
 use Rattle.atr.proofs.reader.read.Reads as read
 
 pub read-answer : Settles read-kinds.ps read-kinds.r read.Post (λ κs r s. r)
-read-answer κs a x y s t f g = f ∙ sym g
+read-answer κs a x y s t f g = f .0 ∙ sym (g .0)

@@ -1,7 +1,8 @@
 // Reading an ATR.
 ghost use mathlib.Core.Path.{_≡_};
 ghost use Rattle.atr.specs.Rules.{startWrong, checkWrong};
-ghost use Rattle.atr.specs.Answer.{answerOf, onTerms};
+ghost use Rattle.atr.specs.Report.{reportOf};
+ghost use Rattle.atr.specs.Answer.{termsOf, numberOf, valuesOf, numberIn, reportIn, answered, answerOf};
 use super::report::Report;
 use super::walk::Interface;
 
@@ -37,7 +38,7 @@ fn is_check_wrong(s: &[u8], tck: bool) -> bool
 
 // 11 and 12, by the interface bytes; else the report.
 fn on_terms(a: Interface, historical: u8) -> Answer
-    ensures { λ r. ⌜ r ≡ onTerms a historical ⌝ }
+    ensures { λ r. ⌜ r ≡ answered (termsOf a) (reportOf a historical) ⌝ }
 {
     if super::rules::is_not_t1(a) {
         return Answer::Refused { number: 11 };
@@ -50,9 +51,11 @@ fn on_terms(a: Interface, historical: u8) -> Answer
     }
 }
 
-// Reads an ATR: any bytes, of any number.
+// Reads an ATR: any bytes, of any number. The answer has the paper's number and the paper's values.
 pub fn read(s: &[u8]) -> Answer
     ensures { λ r. ⌜ r ≡ answerOf (now (s .entry)) ⌝ }
+    ensures { λ r. ⌜ numberIn r ≡ numberOf (now (s .entry)) ⌝ }
+    ensures { λ r. ⌜ reportIn r ≡ valuesOf (now (s .entry)) ⌝ }
 {
     if is_start_wrong(s) {
         return Answer::Refused { number: 8 };
