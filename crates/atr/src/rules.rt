@@ -87,10 +87,7 @@ fn is_speed_refused(ta1: u16, ta2: u16) -> bool
     if ta1 < 0x11 {
         return true;
     }
-    if 0x13 < ta1 {
-        return true;
-    }
-    false
+    0x13 < ta1
 }
 
 // TA3 in 00 to 0F, or FF.

@@ -1,9 +1,9 @@
 -- Going by the outcome of a test. Assumes nothing.
-use mathlib.Core.Path.{_≡_, refl, sym}
-use mathlib.Core.Bool.{Bool, true, false, cond, _&&_, _||_, false≢true}
+use mathlib.Core.Path.{_≡_, refl, sym, ap, _∙_}
+use mathlib.Core.Bool.{Bool, true, false, cond, not, _&&_, _||_, false≢true}
 use Prim.Native.Nat.{ℕ, _≤_, _<_}
-use lib.Dec.{leb, eqb}
-use borrow.Author.Tests.{leb-true, leb-false, eqb-true, eqb-false}
+use lib.Dec.{ltb, leb, eqb}
+use borrow.Author.Tests.{leb-true, leb-false, eqb-true, eqb-false, lt-ltb, le-ltb, lt-leb, le-leb}
 
 -- what holds of both answers holds of the answer that a test picks
 pub cond-case : {A : Type 0} (P : A → Type 0) (t : Bool) {x y : A} → (t ≡ true → P x) → (t ≡ false → P y) → P (cond t x y)
@@ -23,6 +23,13 @@ eq-or-ne {A} a b f g = go (eqb a b) refl
     go : (t : Bool) → eqb a b ≡ t → A
     go true e = f (eqb-true a b e)
     go false e = g (eqb-false a b e)
+
+-- not at most is more
+pub not-leb : (a b : ℕ) → not (leb a b) ≡ ltb b a
+not-leb a b =
+    le-or-lt a b
+    (λ h. ap not (le-leb a b h) ∙ sym (le-ltb b a h))
+    (λ h. ap not (lt-leb a b h) ∙ sym (lt-ltb b a h))
 
 -- the parts of a test that held
 pub and-left : (a b : Bool) → (a && b) ≡ true → a ≡ true

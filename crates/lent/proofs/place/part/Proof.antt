@@ -10,8 +10,6 @@ use Rattle.lent.proofs.PlaceLaws.{window-past}
 use borrow.Author.Needs.{needs}
 use Rattle.lent.proofs.place.part.Statement.{statement}
 use Rattle.lent.proofs.place.part.Tie as tie
-use Rattle.lent.proofs.place.part.Reads as reads
-use Rattle.lent.proofs.place.part.Lts as lts
 
 slice-aggregate-result : tie.Need-slice-aggregate-result
 slice-aggregate-result c = search needs
