@@ -31,10 +31,10 @@ size-left ta3 e =
 power-between : (k m : ℕ) → k ≤ m → (1 ≤ 2 ^ k) × (2 ^ k ≤ 2 ^ m)
 power-between k m h = (pow-mono {i = 0} (omega arith), pow-mono h)
 
-pub record Waits (tb3 tc1 : ℕ) : Type 0 where
-  pub block : bwi tb3 ≤ 4
-  pub character : cwi tb3 ≤ 5
-  pub guard : nPlus1 tc1 ≤ 2 ^ cwi tb3
+record Waits (tb3 tc1 : ℕ) : Type 0 where
+  block : bwi tb3 ≤ 4
+  character : cwi tb3 ≤ 5
+  guard : nPlus1 tc1 ≤ 2 ^ cwi tb3
 
 wait-left : (tb3 tc1 : ℕ) → waitRefused tb3 tc1 ≡ false → Waits tb3 tc1
 unfolding waitRefused

@@ -10,6 +10,7 @@ use lib.Dec.{eqb}
 use lib.ListN.{length, getD, drop, drop-of-length-le}
 use lib.Seq.{drop-cons}
 use borrow.Author.Tests.{ne-eqb}
+use Rattle.lent.proofs.PlaceLaws.{getD-past}
 use Rattle.lent.proofs.Cases.{cond-case, le-or-lt, eq-or-ne}
 use Rattle.block.specs.Block.{bit}
 use Rattle.atr.specs.declared.walk.Group.{Group}
@@ -21,18 +22,7 @@ use Rattle.atr.specs.Walk.{absent, Letter, A, B, C, D, said, announced, 
 grown : ℕ → Walk → Walk
 grown n w = record { groups = w .groups; size = n + w .size }
 
--- past the end of the bytes
-getD-past : (s : List ℕ) (p d : ℕ) → length s ≤ p → getD s p d ≡ d
-getD-past [] p d h = refl
-getD-past (x ∷ s) zero d h = absurd (omega arith)
-getD-past (x ∷ s) (suc p) d h = getD-past s p d (omega arith)
-
--- and within them
-pub getD-in : (s : List ℕ) (p d e : ℕ) → p < length s → getD s p d ≡ getD s p e
-getD-in [] p d e h = absurd (omega arith)
-getD-in (x ∷ s) zero d e h = refl
-getD-in (x ∷ s) (suc p) d e h = getD-in s p d e (omega arith)
-
+-- past the end of the bytes nothing is there
 pub field-past : (s : List ℕ) (p b : ℕ) → length s ≤ p → fieldAt s p b ≡ absent
 unfolding fieldAt
 field-past s p b h = cond-case (λ (x : ℕ). x ≡ absent) (eqb b 1) (λ _. getD-past s p absent h) (λ _. refl)

@@ -2,7 +2,7 @@
 -- A law with no bound holds of every place, also where nothing is written. Assumes nothing.
 use mathlib.Core.Path.{_≡_, refl, sym, ap, _∙_}
 use mathlib.Core.List.{List, [], _∷_, _++_, append-assoc, append-nil}
-use Prim.Native.Nat.{ℕ, suc, _+_, _-_, _≤_, _<_}
+use Prim.Native.Nat.{ℕ, zero, suc, _+_, _-_, _≤_, _<_}
 use native.Mathlib.Nat.{add-zero}
 use native.Mathlib.Numerals.{add-one}
 use native.Mathlib.Omega.{arith}
@@ -20,6 +20,18 @@ within-left a n k h =
     le-or-lt (a + n) k
     (λ l. le-leb n (k - a) (omega arith) ∙ sym (le-leb (a + n) k l))
     (λ l. lt-leb n (k - a) (omega arith) ∙ sym (lt-leb (a + n) k l))
+
+-- ---- a byte past the end, which reads as what is said of it, and one within
+
+pub getD-past : (t : List ℕ) (a d : ℕ) → length t ≤ a → getD t a d ≡ d
+getD-past [] a d h = refl
+getD-past (x ∷ t) zero d h = absurd (omega arith)
+getD-past (x ∷ t) (suc a) d h = getD-past t a d (omega arith)
+
+pub getD-in : (t : List ℕ) (a d e : ℕ) → a < length t → getD t a d ≡ getD t a e
+getD-in [] a d e h = absurd (omega arith)
+getD-in (x ∷ t) zero d e h = refl
+getD-in (x ∷ t) (suc a) d e h = getD-in t a d e (omega arith)
 
 -- ---- a part of a list
 

@@ -3,7 +3,8 @@ use borrow.Author.Needs.{needs}
 use Rattle.atr.proofs.walk.field.Statement.{statement}
 use Rattle.atr.proofs.walk.field.Tie as tie
 use Rattle.atr.specs.Walk.{fieldAt}
-use Rattle.atr.proofs.WalkLaws.{field-past, getD-in}
+use Rattle.lent.proofs.PlaceLaws.{getD-in}
+use Rattle.atr.proofs.WalkLaws.{field-past}
 use borrow.Author.Tests.{ne-eqb, eq-eqb}
 use mathlib.Core.Path.{sym}
 use native.Mathlib.Omega.{arith}
