@@ -5,7 +5,6 @@ use mathlib.Core.List.{List}
 use Prim.Native.Nat.{ℕ, _^_, _≤_, _<_}
 use native.Mathlib.Omega.{arith}
 use lib.Dec.{ltb, leb, eqb}
-use lib.Pow.{pow-mono}
 use borrow.Author.Tests.{ltb-true, ltb-false, leb-false, eqb-true, eqb-false}
 use Rattle.lent.proofs.Cases.{cond-case, or-left, or-right}
 use Rattle.atr.specs.declared.walk.Interface.{Interface}
@@ -16,6 +15,7 @@ use Rattle.atr.specs.Walk.{present, historical, interfaceOf, endOf}
 use Rattle.atr.specs.Rules.{startWrong, lengthWrong, checkWrong, notT1, nPlus1, bwi, cwi, speedRefused, sizeRefused, waitRefused, checkRefused, parameterRefused}
 use Rattle.atr.specs.Report.{ifscOf, dInUse, reportOf, Bounded}
 use Rattle.atr.specs.Answer.{termsOf, numberOf, zeros, valuesOf, numberIn, reportIn, answered, answerOf, Told}
+use Rattle.atr.proofs.PowerLaws.{power-between}
 
 -- ---- what a rule leaves that does not refuse
 
@@ -27,9 +27,6 @@ size-left ta3 e =
     cond-case (λ (n : ℕ). (16 ≤ n) × (n ≤ 254)) (present ta3)
     (λ p. (omega arith, omega (arith, ltb-true ta3 256 p)))
     (λ p. (omega arith, omega arith))
-
-power-between : (k m : ℕ) → k ≤ m → (1 ≤ 2 ^ k) × (2 ^ k ≤ 2 ^ m)
-power-between k m h = (pow-mono {i = 0} (omega arith), pow-mono h)
 
 record Waits (tb3 tc1 : ℕ) : Type 0 where
   block : bwi tb3 ≤ 4

@@ -2,7 +2,7 @@
 pub mod WalkLaws
 pub mod LaidLaws
 pub mod RatesLaws
-pub mod ReportLaws
+pub mod PowerLaws
 pub mod AnswerLaws
 pub mod Settled
 pub mod Vectors

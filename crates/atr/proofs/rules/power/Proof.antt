@@ -2,7 +2,7 @@
 use borrow.Author.Needs.{needs}
 use Rattle.atr.proofs.rules.power.Statement.{statement}
 use Rattle.atr.proofs.rules.power.Tie as tie
-use Rattle.atr.proofs.ReportLaws.{shifted}
+use Rattle.atr.proofs.PowerLaws.{shifted}
 
 shl-result : tie.Need-shl-result
 shl-result c = search needs
