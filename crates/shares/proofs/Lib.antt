@@ -1,0 +1,10 @@
+-- Laws of the shares, for the proofs of the layers above.
+pub mod OthersLaws
+pub mod FitLaws
+pub mod GrantLaws
+pub mod RunLaws
+pub mod StrikeLaws
+pub mod DemandLaws
+pub mod BothLaws
+pub mod Vectors
+pub mod Settled
