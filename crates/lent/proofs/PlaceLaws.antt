@@ -7,7 +7,7 @@ use native.Mathlib.Nat.{add-zero}
 use native.Mathlib.Numerals.{add-one}
 use native.Mathlib.Omega.{arith}
 use lib.Dec.{leb}
-use lib.ListN.{length, take, drop, getD, set, length-append, length-take, length-drop, take-append-drop, drop-of-length-le}
+use lib.ListN.{length, take, drop, getD, set, replicate, length-replicate, length-append, length-take, length-drop, take-append-drop, drop-of-length-le}
 use lib.Seq.{take-all, take-append-le, drop-append-le, drop-append-add, take-at, drop-cons, getD-drop, getD-take, drop-drop, take-length, take-nil, length-take-le, paste, append-snoc, set-split, set-out}
 use borrow.Author.Tests.{le-leb, lt-leb, leb-true}
 use borrow.Rule.Slice.PartMut.{putMid}
@@ -193,6 +193,21 @@ splice-append t a xs ys h =
     ∙ ap (λ (k : ℕ). p ++ ys ++ drop k t) g
     ∙ ap (λ (l : List ℕ). l ++ drop (a + length (xs ++ ys)) t) (append-assoc (take a t) xs ys)
     ∙ sym (splice-in t a (xs ++ ys) (omega arith))
+
+-- one byte more of the same
+replicate-next : (n v : ℕ) → replicate n v ++ (v ∷ []) ≡ replicate (suc n) v
+replicate-next zero v = refl
+replicate-next (suc n) v = ap (λ (l : List ℕ). v ∷ l) (replicate-next n v)
+
+-- a fill's turn
+pub fill-next : (t : List ℕ) (a n v : ℕ) → a + n < length t
+    → set (splice t a (replicate n v)) (a + n) v ≡ splice t a (replicate (n + 1) v)
+fill-next t a n v h =
+    let k : length {A = ℕ} (replicate n v) ≡ n = length-replicate {A = ℕ} n v in
+    sym (splice-one (splice t a (replicate n v)) (a + n) v)
+    ∙ ap (λ (j : ℕ). splice (splice t a (replicate n v)) (a + j) (v ∷ [])) (sym k)
+    ∙ splice-append t a (replicate n v) (v ∷ []) (omega arith)
+    ∙ ap (splice t a) (replicate-next n v ∙ ap (λ (j : ℕ). replicate j v) (sym (add-one n)))
 
 -- a copy of all of xs is a splice
 pub paste-splice : (t : List ℕ) (a : ℕ) (xs : List ℕ) → a + length xs ≤ length t → paste t a xs (length xs) ≡ splice t a xs

@@ -6,6 +6,8 @@ use Rattle.lent.proofs.place.part.Kinds as part-kinds
 use Rattle.lent.proofs.place.part.Reads as part
 use Rattle.lent.proofs.place.put.Kinds as put-kinds
 use Rattle.lent.proofs.place.put.Reads as put
+use Rattle.lent.proofs.place.fill.Kinds as fill-kinds
+use Rattle.lent.proofs.place.fill.Reads as fill
 use Rattle.lent.proofs.number.get8.Kinds as get8-kinds
 use Rattle.lent.proofs.number.get8.Reads as get8
 use Rattle.lent.proofs.number.get16.Kinds as get16-kinds
@@ -58,3 +60,9 @@ put32-answer κs a x y s t f g = f .0 ∙ sym (g .0)
 
 pub put32-bytes : Settles put32-kinds.ps put32-kinds.r put32.Post (λ κs r s. now (s .0))
 put32-bytes κs a x y s t f g = f .1 ∙ sym (g .1)
+
+pub fill-answer : Settles fill-kinds.ps fill-kinds.r fill.Post (λ κs r s. r)
+fill-answer κs a x y s t f g = f .0 ∙ sym (g .0)
+
+pub fill-bytes : Settles fill-kinds.ps fill-kinds.r fill.Post (λ κs r s. now (s .0))
+fill-bytes κs a x y s t f g = f .1 ∙ sym (g .1)

@@ -9,5 +9,6 @@ pub use number::get32;
 pub use number::put8;
 pub use number::put16;
 pub use number::put32;
+pub use place::fill;
 pub use place::part;
 pub use place::put;
