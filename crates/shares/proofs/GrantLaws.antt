@@ -1,5 +1,5 @@
 -- The grant rule: what it says, and that a cell given by it keeps the pool sound. Assumes nothing.
-use Prim.Native.Nat.{ℕ, suc, _+_, _-_, max, _≤_, _<_}
+use Prim.Native.Nat.{ℕ, suc, _+_, _-_, _≤_, _<_}
 use mathlib.Core.Path.{_≡_, refl, sym, ap, _∙_}
 use mathlib.Core.Logic.{_↔_}
 use mathlib.Core.Bool.{Bool, true, false, cond, true≢false}
@@ -8,7 +8,7 @@ use lib.Dec.{ltb}
 use borrow.Author.Tests.{ltb-true, ltb-false, lt-ltb, le-ltb}
 use Rattle.lent.specs.Fold.{sum}
 use Rattle.lent.proofs.Cases.{eq-or-ne}
-use Rattle.lent.proofs.FoldLaws.{sum-ext, sum-zero, sum-add}
+use Rattle.lent.proofs.FoldLaws.{sum-ext, sum-zero}
 use Rattle.shares.specs.Pool.{Pool, Fit, Sound, free, lack, others, othersLack, given, granted}
 use Rattle.shares.proofs.OthersLaws.{sum-others, others-ext}
 
@@ -126,17 +126,3 @@ given-free K h i l S g = go (why K h i g)
     go : Why K h i → 0 < free K h
     go (below b) = omega (arith, sum-others (K .holders) i (lack K h) l, S .enough)
     go (spare a b e) = omega arith
-
--- Sound in one sum: the larger of held and share, added up, is at most the cells.
-module _ (K : Pool) (h : ℕ → ℕ) where
-  abbrev larger : ℕ → ℕ
-  larger j = max (h j) (K .share j)
-
-  larger-is : sum (K .holders) larger ≡ sum (K .holders) h + sum (K .holders) (lack K h)
-  larger-is = sum-ext larger (λ j. h j + lack K h j) (K .holders) (λ j l. omega arith) ∙ sum-add h (lack K h) (K .holders)
-
-  pub sound-larger : Sound K h → sum (K .holders) (λ j. max (h j) (K .share j)) ≤ K .cells
-  sound-larger S = omega (arith, larger-is, S .within, S .enough)
-
-  pub larger-sound : ((i : ℕ) → i < K .holders → h i ≤ K .ceiling i) → sum (K .holders) (λ j. max (h j) (K .share j)) ≤ K .cells → Sound K h
-  larger-sound u m = record { under = u; within = omega (arith, larger-is); enough = omega (arith, larger-is) }

@@ -1,6 +1,6 @@
 -- Laws of the shares, for the proofs of the layers above.
 pub mod OthersLaws
-pub mod FitLaws
+pub mod TestLaws
 pub mod GrantLaws
 pub mod RunLaws
 pub mod StrikeLaws

@@ -51,6 +51,12 @@ granted K h i = given (h i) (K .share i) (K .ceiling i) (othersLack K h i) (free
 
 -- ---- sound: no holder over its ceiling, no more held than there is, and free cells for all that is lacking
 
+unfoldable pub sound : Pool → (ℕ → ℕ) → Bool
+sound K h =
+    all (K .holders) (λ i. leb (h i) (K .ceiling i))
+    && (leb (sum (K .holders) h) (K .cells) && leb (sum (K .holders) (lack K h)) (free K h))
+
+-- the same as facts
 pub record Sound (K : Pool) (h : ℕ → ℕ) : Type 0 where
   pub under : (i : ℕ) → i < K .holders → h i ≤ K .ceiling i
   pub within : sum (K .holders) h ≤ K .cells

@@ -1,0 +1,26 @@
+-- `pool::response::response_length`: a holder of a region, and any other number. Assumes nothing.
+use mathlib.Core.Path.{sym, ap, _∙_}
+use lib.ListN.{length}
+use denote.Ref.{now}
+use borrow.Author.Needs.{needs}
+use Rattle.pool.proofs.CallLaws.{inside-facts, response-in, response-out}
+use Rattle.pool.proofs.response.response_length.Statement.{statement}
+use Rattle.pool.proofs.response.response_length.Tie as tie
+use Rattle.pool.proofs.layout.is_inside.Reads as is-inside-reads
+use Rattle.pool.proofs.response.length_in_all.Reads as length-in-all-reads
+
+is-inside-requires : tie.Need-is-inside-requires
+is-inside-requires c κs = search needs
+
+length-in-all-requires : tie.Need-length-in-all-requires
+length-in-all-requires c κs = let a = c .before .before .before .args in inside-facts (now (a .r)) (a .i) (sym (c .before .is-inside .ensures) ∙ c .if1 .taken)
+
+returns : tie.Need-returns
+returns c = let a = c .before .before .before .before .args in c .length-in-all .ensures ∙ sym (ap length (response-in (now (a .r)) (a .i) (sym (c .before .before .is-inside .ensures) ∙ c .before .if1 .taken)))
+
+returns-2 : tie.Need-returns-2
+returns-2 c = let a = c .before .before .before .args in sym (ap length (response-out (now (a .r)) (a .i) (sym (c .before .is-inside .ensures) ∙ c .if1 .left)))
+
+pub response-length-spec : {M : Type 1} → statement M
+response-length-spec =
+    tie.close (tie.spec is-inside-requires length-in-all-requires returns returns-2)

@@ -1,0 +1,92 @@
+-- What each call answers, and every byte that it leaves, for any bytes. A region that is too short, a holder beyond the
+-- last and a piece of no or more than 254 bytes change nothing.
+use Prim.Native.Nat.{ℕ, zero, suc, _+_, _*_, _-_}
+use mathlib.Core.Bool.{Bool, cond, _&&_}
+use mathlib.Core.List.{List, [], _++_}
+use lib.Dec.{eqb, ltb, leb}
+use lib.ListN.{length, set, replicate}
+use Rattle.lent.specs.Place.{within, splice}
+use Rattle.lent.specs.Fold.{first}
+use Rattle.shares.specs.Pool as pool
+use Rattle.pool.specs.Layout.{holders, cells, cellSize, unowned, heldAt, ownersAt, placesAt, lengthsAt, listsAt, cellsAt, size, held, owner, len, listed, piece, poolOf, poolIn}
+use Rattle.pool.specs.Sound.{pieceSize}
+
+-- ---- a fresh region
+
+-- nothing is held and nobody owns a cell; what is not looked at is 0
+unfoldable pub fresh : List ℕ → List ℕ → List ℕ
+fresh shares ceilings =
+    shares ++ ceilings ++ replicate holders 0 ++ replicate cells unowned ++ replicate (size - placesAt) 0
+
+unfoldable pub laysOut : List ℕ → List ℕ → List ℕ → Bool
+laysOut r shares ceilings = within r 0 size && pool.fit (poolOf shares ceilings)
+
+unfoldable pub laidOut : List ℕ → List ℕ → List ℕ → List ℕ
+laidOut r shares ceilings = cond (laysOut r shares ceilings) (splice r 0 (fresh shares ceilings)) r
+
+-- ---- holders and cells
+
+-- there is a region, and i is one of its holders
+unfoldable pub inside : List ℕ → ℕ → Bool
+inside r i = leb size (length r) && ltb i holders
+
+unfoldable pub heldBy : List ℕ → ℕ → ℕ
+heldBy r i = cond (inside r i) (held r i) 0
+
+unfoldable pub freeCells : List ℕ → ℕ
+freeCells r = cond (leb size (length r)) (pool.free (poolIn r) (held r)) 0
+
+unfoldable pub grants : List ℕ → ℕ → Bool
+grants r i = pool.granted (poolIn r) (held r) i
+
+unfoldable pub granted : List ℕ → ℕ → Bool
+granted r i = inside r i && grants r i
+
+-- ---- append
+
+-- the free cell that is taken is the lowest; where there is none, 96
+unfoldable pub lowest : List ℕ → ℕ
+lowest r = first cells (λ c. eqb (owner r c) unowned)
+
+-- cell c is holder i's piece n, the last that it holds, with the bytes xs
+unfoldable pub stored : List ℕ → ℕ → ℕ → ℕ → List ℕ → List ℕ
+stored r i n c xs =
+    set (set (set (set (set (splice r (cellsAt + c * cellSize) xs) (ownersAt + c) i) (placesAt + c) n) (lengthsAt + c) (length xs)) (listsAt + (i * cells + n)) c) (heldAt + i) (n + 1)
+
+-- a cell is taken where the rule grants one (in a sound region one is then free)
+unfoldable pub takes : List ℕ → ℕ → Bool
+takes r i = grants r i && ltb (lowest r) cells
+
+unfoldable pub appends : List ℕ → ℕ → List ℕ → Bool
+appends r i xs = inside r i && (pieceSize (length xs) && takes r i)
+
+unfoldable pub appended : List ℕ → ℕ → List ℕ → List ℕ
+appended r i xs = cond (appends r i xs) (stored r i (held r i) (lowest r) xs) r
+
+-- ---- release
+
+-- nobody owns the first n cells of holder i's list
+unfoldable pub freed : List ℕ → ℕ → ℕ → List ℕ
+freed r i zero = r
+freed r i (suc k) = set (freed r i k) (ownersAt + listed (freed r i k) i k) unowned
+
+unfoldable pub released : List ℕ → ℕ → List ℕ
+released r i = cond (inside r i) (set (freed r i (held r i)) (heldAt + i) 0) r
+
+-- ---- the response
+
+-- the bytes of any cell number: none where it or the cell's length is out of range
+unfoldable pub bytesIn : List ℕ → ℕ → List ℕ
+bytesIn r c = cond (ltb c cells && leb (len r c) cellSize) (piece r c) []
+
+-- the first n pieces of holder i joined
+unfoldable pub joined : List ℕ → ℕ → ℕ → List ℕ
+joined r i zero = []
+joined r i (suc k) = joined r i k ++ bytesIn r (listed r i k)
+
+unfoldable pub response : List ℕ → ℕ → List ℕ
+response r i = cond (inside r i) (joined r i (held r i)) []
+
+-- the response at the front of an output, the rest as it was; an output that is shorter stays
+unfoldable pub copied : List ℕ → ℕ → List ℕ → List ℕ
+copied r i out = splice out 0 (response r i)

@@ -1,0 +1,41 @@
+// A fresh region.
+ghost use mathlib.Core.Path.{_≡_};
+ghost use Prim.Native.Nat.{_≤_};
+ghost use lib.ListN.{length};
+ghost use Rattle.lent.specs.Place.{splice};
+ghost use Rattle.pool.specs.Layout.{size};
+ghost use Rattle.pool.specs.Calls.{fresh, laysOut, laidOut};
+
+// Writes every byte of the region, so that nothing of an earlier pool remains.
+fn write_all(r: &mut [u8], shares: &[u8; 8], ceilings: &[u8; 8])
+    requires { ⌜ size ≤ length (now r) ⌝ }
+    ensures { λ _. ⌜ now (r .exit) ≡ splice (now (r .entry)) 0 (fresh (now (shares .entry)) (now (ceilings .entry))) ⌝ }
+{
+    lent::put(r, super::layout::SHARES, shares);
+    lent::put(r, super::layout::CEILINGS, ceilings);
+    lent::fill(r, super::layout::HELD, super::layout::HOLDERS, 0);
+    let map = [super::layout::UNOWNED; 96];
+    lent::put(r, super::layout::OWNERS, &map);
+    lent::fill(
+        r,
+        super::layout::PLACES,
+        super::layout::SIZE - super::layout::PLACES,
+        0,
+    );
+}
+
+// Lays out a pool with these shares and ceilings: nothing is held, and nobody owns a cell. Answers whether it did; where
+// r is too short or the limits do not pass, r stays.
+pub fn lay_out(r: &mut [u8], shares: &[u8; 8], ceilings: &[u8; 8]) -> bool
+    ensures { λ b. ⌜ b ≡ laysOut (now (r .entry)) (now (shares .entry)) (now (ceilings .entry)) ⌝ }
+    ensures { λ _. ⌜ now (r .exit) ≡ laidOut (now (r .entry)) (now (shares .entry)) (now (ceilings .entry)) ⌝ }
+{
+    if r.len() < super::layout::SIZE {
+        return false;
+    }
+    if super::limits::acceptable(shares, ceilings) {
+        write_all(r, shares, ceilings);
+        return true;
+    }
+    false
+}
