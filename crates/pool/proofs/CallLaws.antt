@@ -1,10 +1,10 @@
 -- The cases of the calls, over plain lists. Assumes nothing.
-use mathlib.Core.Path.{_≡_, sym, _∙_}
-use mathlib.Core.Bool.{true, false, cond, _&&_}
+use mathlib.Core.Path.{_≡_}
+use mathlib.Core.Bool.{true, false}
 use mathlib.Core.List.{List, []}
 use Prim.Native.Nat.{ℕ, _+_, _≤_, _<_}
 use native.Mathlib.Omega.{arith}
-use lib.Dec.{ltb, leb}
+use lib.Dec.{leb}
 use lib.ListN.{length, getD}
 use borrow.Author.Tests.{leb-true, ltb-true, lt-ltb, le-ltb}
 use Rattle.lent.specs.Place.{splice}
@@ -12,7 +12,7 @@ use Rattle.lent.proofs.Cases.{and-left, and-right}
 use Rattle.shares.proofs.GrantLaws.{Why, below, spare, why}
 use Rattle.pool.specs.Layout.{holders, cells, sharesAt, ceilingsAt, size, held, poolIn}
 use Rattle.pool.specs.Sound.{pieceSize}
-use Rattle.pool.specs.Calls.{fresh, laysOut, laidOut, inside, grants, lowest, stored, takes, appends, appended, freed, released, joined, response}
+use Rattle.pool.specs.Calls.{fresh, laysOut, laidOut, inside, grants, lowest, stored, takes, appends, appended, joined, response}
 use Rattle.pool.proofs.LimitLaws.{share-at, ceiling-at}
 
 module _ (r : List ℕ) (i : ℕ) where

@@ -64,10 +64,10 @@ fn others_lack(r: &[u8], i: usize) -> u16
     ensures { λ n. ⌜ n ≡ pool.othersLack (layout.poolIn (now (r .entry))) (layout.held (now (r .entry))) i ⌝ }
 {
     let mut total: u16 = 0;
-    let mut j: usize = 0;
-    while j < super::layout::HOLDERS {
-        total += lack_but(r, j, i);
-        j += 1;
+    let mut k: usize = 0;
+    while k < super::layout::HOLDERS {
+        total += lack_but(r, k, i);
+        k += 1;
     }
     total
 }

@@ -1,14 +1,13 @@
 -- Demand 3 holds of every rack whose pool is sound, so of a fresh one. Assumes nothing.
-use Prim.Native.Nat.{ℕ, _≤_, _<_}
-use mathlib.Core.Path.{_≡_, refl, sym, ap, _∙_}
+use Prim.Native.Nat.{ℕ, _<_}
+use mathlib.Core.Path.{_≡_, refl, sym, _∙_}
 use mathlib.Core.Bool.{Bool, true, false, _&&_}
-use mathlib.Core.List.{List}
 use native.Mathlib.Omega.{arith}
 use lib.Dec.{ltb}
 use borrow.Author.Tests.{ltb-true}
 use Rattle.lent.proofs.Cases.{and-left, and-right}
 use Rattle.shares.specs.Pool.{Pool, Fit, Sound, granted}
-use Rattle.shares.specs.Rack.{Protocol, Lawful, Call, Rack, holds, asked, gets, run}
+use Rattle.shares.specs.Rack.{Protocol, Lawful, Rack, holds, asked, gets, run}
 use Rattle.shares.specs.Demand.{Reached, Demand3}
 use Rattle.shares.proofs.GrantLaws.{below-share, between, at-ceiling, given-free, fresh-sound}
 use Rattle.shares.proofs.RunLaws.{sound-run}

@@ -11,8 +11,6 @@ use Rattle.lent.specs.Place.{within}
 use Rattle.lent.proofs.PlaceLaws.{splice-out}
 use Rattle.lent.proofs.place.fill.Statement.{statement}
 use Rattle.lent.proofs.place.fill.Tie as tie
-use Rattle.lent.proofs.place.lies_within.Reads as lies-within-reads
-use Rattle.lent.proofs.place.repeat.Reads as repeat-reads
 
 flag : (c : tie.After-lies-within) → let a = c .before .before .before .args in
     within (now (a .t)) (a .a) (a .n) ≡ c .lies-within .result

@@ -9,8 +9,6 @@ use Rattle.pool.specs.Layout.{held}
 use Rattle.pool.specs.Calls.{freed}
 use Rattle.pool.proofs.freeing.free_all.Statement.{statement}
 use Rattle.pool.proofs.freeing.free_all.Tie as tie
-use Rattle.pool.proofs.freeing.free_one.Reads as free-one-reads
-use Rattle.pool.proofs.layout.wide.Reads as wide-reads
 
 abbrev Inv-loop : tie.InvT-loop
 Inv-loop r₀ i n k₀ r k =

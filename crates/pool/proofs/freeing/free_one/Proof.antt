@@ -2,7 +2,6 @@
 use borrow.Author.Needs.{needs}
 use Rattle.pool.proofs.freeing.free_one.Statement.{statement}
 use Rattle.pool.proofs.freeing.free_one.Tie as tie
-use Rattle.pool.proofs.layout.wide.Reads as wide-reads
 
 mul-wide : tie.Need-mul-wide
 mul-wide c = search needs

@@ -6,8 +6,6 @@ use Rattle.pool.specs.Calls.{released}
 use Rattle.pool.proofs.CallLaws.{inside-facts}
 use Rattle.pool.proofs.freeing.release.Statement.{statement}
 use Rattle.pool.proofs.freeing.release.Tie as tie
-use Rattle.pool.proofs.freeing.free_all.Reads as free-all-reads
-use Rattle.pool.proofs.layout.is_inside.Reads as is-inside-reads
 
 is-inside-requires : tie.Need-is-inside-requires
 is-inside-requires c κs = search needs

@@ -12,8 +12,6 @@ use Rattle.pool.specs.Calls.{laysOut}
 use Rattle.pool.proofs.CallLaws.{laid-yes, laid-no}
 use Rattle.pool.proofs.fresh.lay_out.Statement.{statement}
 use Rattle.pool.proofs.fresh.lay_out.Tie as tie
-use Rattle.pool.proofs.fresh.write_all.Reads as write-all-reads
-use Rattle.pool.proofs.limits.acceptable.Reads as acceptable-reads
 
 returns : tie.Need-returns
 unfolding laysOut

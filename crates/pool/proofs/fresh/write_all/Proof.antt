@@ -5,8 +5,6 @@ use borrow.Author.Needs.{needs}
 use Rattle.pool.proofs.FreshLaws.{fresh-steps}
 use Rattle.pool.proofs.fresh.write_all.Statement.{statement}
 use Rattle.pool.proofs.fresh.write_all.Tie as tie
-use Rattle.lent.proofs.fill.Reads as fill-reads
-use Rattle.lent.proofs.put.Reads as put-reads
 
 put-requires : tie.Need-put-requires
 put-requires c κs = search needs

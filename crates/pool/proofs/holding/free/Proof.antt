@@ -8,7 +8,6 @@ use Rattle.pool.specs.Layout.{size}
 use Rattle.pool.specs.Calls.{freeCells}
 use Rattle.pool.proofs.holding.free.Statement.{statement}
 use Rattle.pool.proofs.holding.free.Tie as tie
-use Rattle.pool.proofs.holding.free_in.Reads as free-in-reads
 
 free-in-requires : tie.Need-free-in-requires
 free-in-requires c κs = search needs

@@ -6,8 +6,6 @@ use Rattle.pool.specs.Calls.{granted}
 use Rattle.pool.proofs.CallLaws.{inside-facts}
 use Rattle.pool.proofs.holding.granted.Statement.{statement}
 use Rattle.pool.proofs.holding.granted.Tie as tie
-use Rattle.pool.proofs.holding.grants_to.Reads as grants-to-reads
-use Rattle.pool.proofs.layout.is_inside.Reads as is-inside-reads
 
 is-inside-requires : tie.Need-is-inside-requires
 is-inside-requires c κs = search needs

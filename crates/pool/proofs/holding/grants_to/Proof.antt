@@ -8,9 +8,6 @@ use Rattle.shares.specs.Pool.{given, granted}
 use Rattle.pool.proofs.LimitLaws.{share-at, ceiling-at}
 use Rattle.pool.proofs.holding.grants_to.Statement.{statement}
 use Rattle.pool.proofs.holding.grants_to.Tie as tie
-use Rattle.pool.proofs.holding.free_in.Reads as free-in-reads
-use Rattle.pool.proofs.holding.others_lack.Reads as others-lack-reads
-use Rattle.shares.proofs.given.Reads as given-reads
 
 add-held : tie.Need-add-held
 add-held c = search needs

@@ -7,7 +7,6 @@ use Rattle.pool.specs.Calls.{heldBy}
 use Rattle.pool.proofs.CallLaws.{inside-facts}
 use Rattle.pool.proofs.holding.held.Statement.{statement}
 use Rattle.pool.proofs.holding.held.Tie as tie
-use Rattle.pool.proofs.layout.is_inside.Reads as is-inside-reads
 
 is-inside-requires : tie.Need-is-inside-requires
 is-inside-requires c κs = search needs

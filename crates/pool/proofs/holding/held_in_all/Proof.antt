@@ -9,7 +9,6 @@ use Rattle.lent.specs.Fold.{sum}
 use Rattle.lent.proofs.FoldLaws.{sum-next}
 use Rattle.pool.proofs.holding.held_in_all.Statement.{statement}
 use Rattle.pool.proofs.holding.held_in_all.Tie as tie
-use Rattle.pool.proofs.layout.wide.Reads as wide-reads
 
 abbrev Inv-loop : tie.InvT-loop
 Inv-loop r total₀ j₀ total j = (j ≤ holders) × (total ≤ 255 * j) × (total ≡ sum j (held r))

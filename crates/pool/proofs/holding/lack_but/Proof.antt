@@ -8,7 +8,6 @@ use Rattle.shares.specs.Pool.{lack}
 use Rattle.pool.proofs.LimitLaws.{share-at}
 use Rattle.pool.proofs.holding.lack_but.Statement.{statement}
 use Rattle.pool.proofs.holding.lack_but.Tie as tie
-use Rattle.pool.proofs.holding.lack.Reads as lack-reads
 
 returns : tie.Need-returns
 returns c = let a = c .before .before .args in (simp (eq-eqb (a .j) (a .i) (omega arith)), omega arith)

@@ -1,4 +1,4 @@
--- `pool::holding::others_lack`: what the holders before j lack is added, i left out. Assumes nothing.
+-- `pool::holding::others_lack`: what the holders before k lack is added, i left out. Assumes nothing.
 use Prim.Native.Nat.{ℕ, _*_, _-_, _≤_, _+_}
 use mathlib.Core.Path.{_≡_, refl, sym, ap, ap₂, _∙_}
 use native.Mathlib.Omega.{arith}
@@ -9,13 +9,12 @@ use Rattle.lent.specs.Fold.{sum}
 use Rattle.lent.proofs.FoldLaws.{sum-next}
 use Rattle.pool.proofs.holding.others_lack.Statement.{statement}
 use Rattle.pool.proofs.holding.others_lack.Tie as tie
-use Rattle.pool.proofs.holding.lack_but.Reads as lack-but-reads
 
 abbrev Inv-loop : tie.InvT-loop
-Inv-loop r i total₀ j₀ total j = (j ≤ holders) × (total ≤ 255 * j) × (total ≡ sum j (others i (lack (poolIn r) (held r))))
+Inv-loop r i total₀ k₀ total k = (k ≤ holders) × (total ≤ 255 * k) × (total ≡ sum k (others i (lack (poolIn r) (held r))))
 
 abbrev μ-loop : tie.MeasureT-loop
-μ-loop r i total₀ j₀ total j = holders - j
+μ-loop r i total₀ k₀ total k = holders - k
 
 loop-holds : tie.Need-loop-holds Inv-loop μ-loop
 unfolding sum
@@ -27,8 +26,8 @@ lack-but-requires c κs = omega arith
 add-total : tie.Need-add-total Inv-loop μ-loop
 add-total c = omega arith
 
-add-j : tie.Need-add-j Inv-loop μ-loop
-add-j c = omega arith
+add-k : tie.Need-add-k Inv-loop μ-loop
+add-k c = omega arith
 
 loop-less : tie.Need-loop-less Inv-loop μ-loop
 loop-less c = omega arith
@@ -40,14 +39,14 @@ loop-again c =
       omega arith,
       omega arith,
       ap₂ _+_ (l .inv .2) (c .lack-but .ensures .0)
-          ∙ sym (sum-next (others (a .i) (lack (poolIn (now (a .r))) (held (now (a .r))))) (l .j)),
+          ∙ sym (sum-next (others (a .i) (lack (poolIn (now (a .r))) (held (now (a .r))))) (l .k)),
     )
 
 returns : tie.Need-returns Inv-loop μ-loop
 returns c =
     let l = c .before .loop in
     let a = c .before .before .before .args in
-    let e : l .j ≡ holders = omega arith in
+    let e : l .k ≡ holders = omega arith in
     l .inv .2 ∙ ap (λ (n : ℕ). sum n (others (a .i) (lack (poolIn (now (a .r))) (held (now (a .r)))))) e
 
 pub others-lack-spec : {M : Type 1} → statement M
@@ -59,7 +58,7 @@ others-lack-spec =
     loop-holds
     lack-but-requires
     add-total
-    add-j
+    add-k
     loop-less
     loop-again
     returns)

@@ -4,7 +4,6 @@ use borrow.Author.Needs.{needs}
 use borrow.Author.Tests.{lt-leb, le-leb}
 use Rattle.pool.proofs.limits.in_order.Statement.{statement}
 use Rattle.pool.proofs.limits.in_order.Tie as tie
-use Rattle.pool.proofs.layout.wide.Reads as wide-reads
 
 returns : tie.Need-returns
 returns c = let a = c .before .args in simp (lt-leb (a .share) (a .ceiling) (omega arith))

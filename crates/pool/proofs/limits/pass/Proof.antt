@@ -14,8 +14,6 @@ use Rattle.lent.specs.Fold.{all, sum}
 use Rattle.lent.proofs.FoldLaws.{all-next, all-fails, sum-next}
 use Rattle.pool.proofs.limits.pass.Statement.{statement}
 use Rattle.pool.proofs.limits.pass.Tie as tie
-use Rattle.pool.proofs.layout.wide.Reads as wide-reads
-use Rattle.pool.proofs.limits.in_order.Reads as in-order-reads
 
 abbrev Inv-loop : tie.InvT-loop
 Inv-loop shares ceilings total₀ i₀ total i =

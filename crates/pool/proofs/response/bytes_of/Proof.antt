@@ -10,8 +10,6 @@ use Rattle.lent.proofs.PlaceLaws.{window-none}
 use Rattle.lent.specs.Place.{window}
 use Rattle.pool.proofs.response.bytes_of.Statement.{statement}
 use Rattle.pool.proofs.response.bytes_of.Tie as tie
-use Rattle.lent.proofs.part.Reads as part-reads
-use Rattle.pool.proofs.layout.wide.Reads as wide-reads
 
 part-requires : tie.Need-part-requires
 part-requires c κs = search needs

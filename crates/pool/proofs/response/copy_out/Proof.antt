@@ -14,9 +14,6 @@ use Rattle.lent.proofs.PlaceLaws.{splice-none, splice-out}
 use Rattle.lent.specs.Place.{within, splice}
 use Rattle.pool.proofs.response.copy_out.Statement.{statement}
 use Rattle.pool.proofs.response.copy_out.Tie as tie
-use Rattle.pool.proofs.layout.is_inside.Reads as is-inside-reads
-use Rattle.pool.proofs.response.join_into.Reads as join-into-reads
-use Rattle.pool.proofs.response.length_in_all.Reads as length-in-all-reads
 
 fits : (out xs ys : List ℕ) → xs ≡ ys → within out 0 (length xs) ≡ within out 0 (length ys)
 fits out xs ys e = ap (λ (l : List ℕ). within out 0 (length l)) e

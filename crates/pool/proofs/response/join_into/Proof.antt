@@ -12,9 +12,6 @@ use Rattle.lent.proofs.PlaceLaws.{splice-none}
 use Rattle.lent.specs.Place.{splice}
 use Rattle.pool.proofs.response.join_into.Statement.{statement}
 use Rattle.pool.proofs.response.join_into.Tie as tie
-use Rattle.lent.proofs.put.Reads as put-reads
-use Rattle.pool.proofs.layout.wide.Reads as wide-reads
-use Rattle.pool.proofs.response.piece_of.Reads as piece-of-reads
 
 abbrev Inv-loop : tie.InvT-loop
 Inv-loop r i out₀ n at₀ k₀ out at k =

@@ -10,8 +10,6 @@ use Rattle.pool.specs.Calls.{joined}
 use Rattle.pool.proofs.ResponseLaws.{length-step}
 use Rattle.pool.proofs.response.length_in_all.Statement.{statement}
 use Rattle.pool.proofs.response.length_in_all.Tie as tie
-use Rattle.pool.proofs.layout.wide.Reads as wide-reads
-use Rattle.pool.proofs.response.piece_of.Reads as piece-of-reads
 
 abbrev Inv-loop : tie.InvT-loop
 Inv-loop r i n total₀ k₀ total k =

@@ -9,8 +9,6 @@ use Rattle.pool.specs.Calls.{bytesIn}
 use Rattle.pool.proofs.ResponseLaws.{bytes-short}
 use Rattle.pool.proofs.response.piece_of.Statement.{statement}
 use Rattle.pool.proofs.response.piece_of.Tie as tie
-use Rattle.pool.proofs.layout.wide.Reads as wide-reads
-use Rattle.pool.proofs.response.bytes_of.Reads as bytes-of-reads
 
 mul-wide : tie.Need-mul-wide
 mul-wide c = search needs

@@ -6,8 +6,6 @@ use borrow.Author.Needs.{needs}
 use Rattle.pool.proofs.CallLaws.{inside-facts, response-in, response-out}
 use Rattle.pool.proofs.response.response_length.Statement.{statement}
 use Rattle.pool.proofs.response.response_length.Tie as tie
-use Rattle.pool.proofs.layout.is_inside.Reads as is-inside-reads
-use Rattle.pool.proofs.response.length_in_all.Reads as length-in-all-reads
 
 is-inside-requires : tie.Need-is-inside-requires
 is-inside-requires c κs = search needs

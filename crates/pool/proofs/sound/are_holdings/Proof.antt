@@ -16,8 +16,6 @@ use Rattle.lent.proofs.FoldLaws.{all-next, all-fails, sum-next}
 use Rattle.pool.proofs.LimitLaws.{share-at, ceiling-at}
 use Rattle.pool.proofs.sound.are_holdings.Statement.{statement}
 use Rattle.pool.proofs.sound.are_holdings.Tie as tie
-use Rattle.pool.proofs.holding.lack.Reads as lack-reads
-use Rattle.pool.proofs.layout.wide.Reads as wide-reads
 
 abbrev under : List ℕ → ℕ → Bool
 under r j = leb (held r j) (poolIn r .ceiling j)

@@ -11,8 +11,6 @@ use Rattle.shares.specs.Pool.{fit}
 use Rattle.lent.proofs.PlaceLaws.{length-window}
 use Rattle.pool.proofs.sound.are_limits.Statement.{statement}
 use Rattle.pool.proofs.sound.are_limits.Tie as tie
-use Rattle.lent.proofs.part.Reads as part-reads
-use Rattle.pool.proofs.limits.pass.Reads as pass-reads
 
 part-requires : tie.Need-part-requires
 part-requires c κs = search needs

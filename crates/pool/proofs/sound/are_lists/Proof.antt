@@ -11,7 +11,6 @@ use Rattle.lent.specs.Fold.{all}
 use Rattle.lent.proofs.FoldLaws.{all-next, all-fails}
 use Rattle.pool.proofs.sound.are_lists.Statement.{statement}
 use Rattle.pool.proofs.sound.are_lists.Tie as tie
-use Rattle.pool.proofs.sound.is_list.Reads as is-list-reads
 
 abbrev Inv-loop : tie.InvT-loop
 Inv-loop r i₀ i = (i ≤ holders) × (all i (listWell r) ≡ true)

@@ -7,9 +7,6 @@ use Rattle.pool.specs.Layout.{cells}
 use Rattle.pool.specs.Sound.{counted}
 use Rattle.pool.proofs.sound.is_counted.Statement.{statement}
 use Rattle.pool.proofs.sound.is_counted.Tie as tie
-use Rattle.pool.proofs.holding.held_in_all.Reads as held-in-all-reads
-use Rattle.pool.proofs.layout.wide.Reads as wide-reads
-use Rattle.pool.proofs.sound.unowned_in_all.Reads as unowned-in-all-reads
 
 unowned-in-all-requires : tie.Need-unowned-in-all-requires
 unowned-in-all-requires c κs = search needs

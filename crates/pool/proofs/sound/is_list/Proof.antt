@@ -12,8 +12,6 @@ use Rattle.lent.specs.Fold.{all}
 use Rattle.lent.proofs.FoldLaws.{all-next, all-fails}
 use Rattle.pool.proofs.sound.is_list.Statement.{statement}
 use Rattle.pool.proofs.sound.is_list.Tie as tie
-use Rattle.pool.proofs.layout.wide.Reads as wide-reads
-use Rattle.pool.proofs.sound.is_listed.Reads as is-listed-reads
 
 abbrev Inv-loop : tie.InvT-loop
 Inv-loop r i n k₀ k = (k ≤ n) × (n ≡ held r i) × (n < 256) × (all k (listedWell r i) ≡ true)

@@ -5,8 +5,6 @@ use borrow.Author.Needs.{needs}
 use Rattle.pool.specs.Sound.{isPiece, listedWell}
 use Rattle.pool.proofs.sound.is_listed.Statement.{statement}
 use Rattle.pool.proofs.sound.is_listed.Tie as tie
-use Rattle.pool.proofs.layout.wide.Reads as wide-reads
-use Rattle.pool.proofs.sound.is_piece.Reads as is-piece-reads
 
 mul-wide : tie.Need-mul-wide
 mul-wide c = search needs

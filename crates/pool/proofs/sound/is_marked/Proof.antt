@@ -5,8 +5,6 @@ use borrow.Author.Tests.{eq-eqb, ne-eqb}
 use Rattle.pool.specs.Layout.{owner, place}
 use Rattle.pool.proofs.sound.is_marked.Statement.{statement}
 use Rattle.pool.proofs.sound.is_marked.Tie as tie
-use Rattle.pool.proofs.layout.is_piece_size.Reads as is-piece-size-reads
-use Rattle.pool.proofs.layout.wide.Reads as wide-reads
 
 returns : tie.Need-returns
 returns c = let a = c .before .args in simp (ne-eqb (a .owner) (a .i) (λ q. omega arith))

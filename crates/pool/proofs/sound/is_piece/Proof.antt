@@ -5,7 +5,6 @@ use borrow.Author.Tests.{lt-ltb, le-ltb}
 use Rattle.pool.specs.Layout.{cells}
 use Rattle.pool.proofs.sound.is_piece.Statement.{statement}
 use Rattle.pool.proofs.sound.is_piece.Tie as tie
-use Rattle.pool.proofs.sound.is_marked.Reads as is-marked-reads
 
 add-owner : tie.Need-add-owner
 add-owner c = search needs

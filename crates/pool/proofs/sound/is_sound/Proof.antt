@@ -8,7 +8,6 @@ use Rattle.pool.specs.Layout.{size}
 use Rattle.pool.specs.Sound.{sound}
 use Rattle.pool.proofs.sound.is_sound.Statement.{statement}
 use Rattle.pool.proofs.sound.is_sound.Tie as tie
-use Rattle.pool.proofs.sound.is_sound_in.Reads as is-sound-in-reads
 
 returns : tie.Need-returns
 unfolding sound

@@ -5,10 +5,6 @@ use borrow.Author.Tests.{not-true, not-false}
 use Rattle.pool.specs.Sound.{soundIn}
 use Rattle.pool.proofs.sound.is_sound_in.Statement.{statement}
 use Rattle.pool.proofs.sound.is_sound_in.Tie as tie
-use Rattle.pool.proofs.sound.are_holdings.Reads as are-holdings-reads
-use Rattle.pool.proofs.sound.are_limits.Reads as are-limits-reads
-use Rattle.pool.proofs.sound.are_lists.Reads as are-lists-reads
-use Rattle.pool.proofs.sound.is_counted.Reads as is-counted-reads
 
 are-limits-requires : tie.Need-are-limits-requires
 are-limits-requires c κs = search needs

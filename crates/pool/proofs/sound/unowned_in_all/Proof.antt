@@ -10,7 +10,6 @@ use Rattle.lent.specs.Fold.{sum}
 use Rattle.lent.proofs.FoldLaws.{sum-next}
 use Rattle.pool.proofs.sound.unowned_in_all.Statement.{statement}
 use Rattle.pool.proofs.sound.unowned_in_all.Tie as tie
-use Rattle.pool.proofs.sound.one_if_unowned.Reads as one-if-unowned-reads
 
 abbrev Inv-loop : tie.InvT-loop
 Inv-loop r total₀ c₀ total c = (c ≤ cells) × (total ≤ c) × (total ≡ sum c (freeAt r))

@@ -13,9 +13,6 @@ use Rattle.pool.proofs.CallLaws.{inside-facts, appends-takes, appends-s
 use Rattle.lent.proofs.Cases.{and-right}
 use Rattle.pool.proofs.storing.append.Statement.{statement}
 use Rattle.pool.proofs.storing.append.Tie as tie
-use Rattle.pool.proofs.layout.is_inside.Reads as is-inside-reads
-use Rattle.pool.proofs.layout.is_piece_size.Reads as is-piece-size-reads
-use Rattle.pool.proofs.storing.take.Reads as take-reads
 
 is-inside-requires : tie.Need-is-inside-requires
 is-inside-requires c κs = search needs

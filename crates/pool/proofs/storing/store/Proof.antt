@@ -5,8 +5,6 @@ use borrow.Author.Needs.{needs}
 use Rattle.pool.specs.Calls.{stored}
 use Rattle.pool.proofs.storing.store.Statement.{statement}
 use Rattle.pool.proofs.storing.store.Tie as tie
-use Rattle.lent.proofs.put.Reads as put-reads
-use Rattle.pool.proofs.layout.wide.Reads as wide-reads
 
 add-n : tie.Need-add-n
 add-n c = search needs

@@ -11,9 +11,6 @@ use Rattle.shares.specs.Pool.{given}
 use Rattle.pool.proofs.CallLaws.{granted-low, takes-yes, takes-full, takes-no}
 use Rattle.pool.proofs.storing.take.Statement.{statement}
 use Rattle.pool.proofs.storing.take.Tie as tie
-use Rattle.pool.proofs.holding.grants_to.Reads as grants-to-reads
-use Rattle.pool.proofs.storing.lowest_free.Reads as lowest-free-reads
-use Rattle.pool.proofs.storing.store.Reads as store-reads
 
 grants-to-requires : tie.Need-grants-to-requires
 grants-to-requires c κs = search needs
