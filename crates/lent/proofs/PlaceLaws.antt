@@ -176,6 +176,14 @@ splice-one t a v =
     ∙ sym (set-split t a v (omega arith)))
     (λ h. splice-out t a (v ∷ []) h ∙ sym (set-out t a v (omega arith)))
 
+-- a byte written outside a part leaves it as it was
+pub window-set : (t : List ℕ) (a v b n : ℕ) → (b ≤ a → a < b + n → ⊥) → window (set t a v) b n ≡ window t b n
+window-set t a v b n out =
+    ap (λ (l : List ℕ). window l b n) (sym (splice-one t a v))
+    ∙ le-or-lt b a
+    (λ h. le-or-lt (b + n) a (window-before t a (v ∷ []) b n) (λ l. absurd (out h l)))
+    (λ h. window-after t a (v ∷ []) b n (omega arith))
+
 -- a write that goes on where the last one ended
 pub splice-append : (t : List ℕ) (a : ℕ) (xs ys : List ℕ) → a + (length xs + length ys) ≤ length t
     → splice (splice t a xs) (a + length xs) ys ≡ splice t a (xs ++ ys)

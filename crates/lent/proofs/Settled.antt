@@ -6,14 +6,16 @@ use Rattle.lent.proofs.place.part.Kinds as part-kinds
 use Rattle.lent.proofs.place.part.Reads as part
 use Rattle.lent.proofs.place.put.Kinds as put-kinds
 use Rattle.lent.proofs.place.put.Reads as put
-use Rattle.lent.proofs.place.fill.Kinds as fill-kinds
-use Rattle.lent.proofs.place.fill.Reads as fill
+use Rattle.lent.proofs.run.fill.Kinds as fill-kinds
+use Rattle.lent.proofs.run.fill.Reads as fill
 use Rattle.lent.proofs.number.get8.Kinds as get8-kinds
 use Rattle.lent.proofs.number.get8.Reads as get8
 use Rattle.lent.proofs.number.get16.Kinds as get16-kinds
 use Rattle.lent.proofs.number.get16.Reads as get16
 use Rattle.lent.proofs.number.get32.Kinds as get32-kinds
 use Rattle.lent.proofs.number.get32.Reads as get32
+use Rattle.lent.proofs.number.wide.Kinds as wide-kinds
+use Rattle.lent.proofs.number.wide.Reads as wide
 use Rattle.lent.proofs.number.put8.Kinds as put8-kinds
 use Rattle.lent.proofs.number.put8.Reads as put8
 use Rattle.lent.proofs.number.put16.Kinds as put16-kinds
@@ -34,6 +36,9 @@ get16-answer κs a x y s t f g = f ∙ sym g
 
 pub get32-answer : Settles get32-kinds.ps get32-kinds.r get32.Post (λ κs r s. r)
 get32-answer κs a x y s t f g = f ∙ sym g
+
+pub wide-answer : Settles wide-kinds.ps wide-kinds.r wide.Post (λ κs r s. r)
+wide-answer κs a x y s t f g = f .0 ∙ sym (g .0)
 
 -- what a write answers, and the bytes that it leaves
 

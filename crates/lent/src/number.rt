@@ -1,10 +1,18 @@
 // Numbers of one, two and four bytes at a place, high byte first. One that does not lie within t reads as 0,
 // and is not written.
 ghost use mathlib.Core.Path.{_≡_};
+ghost use Prim.Native.Nat.{_<_};
 ghost use mathlib.Core.List.{[], _∷_};
 ghost use lib.ListN.{getD};
 ghost use Rattle.lent.specs.Place.{within, splice};
 ghost use Rattle.lent.specs.Number.{bytesOf, numberAt};
+
+// A byte as a wider number.
+pub fn wide(x: u8) -> usize
+    ensures { λ r. ⌜ (r ≡ x) × (r < 256) ⌝ }
+{
+    x as usize
+}
 
 // The byte at a.
 pub fn get8(t: &[u8], a: usize) -> u8

@@ -1,7 +1,7 @@
 // A part of lent bytes at a place: lent on to read it, or written over.
 ghost use mathlib.Core.Path.{_≡_};
 ghost use Prim.Native.Nat.{_+_, _≤_};
-ghost use lib.ListN.{length, replicate};
+ghost use lib.ListN.{length};
 ghost use Rattle.lent.specs.Place.{within, window, splice};
 
 // Whether n bytes from place a lie within t.
@@ -48,30 +48,6 @@ pub fn put(t: &mut [u8], a: usize, src: &[u8]) -> bool
 {
     if lies_within(t, a, src.len()) {
         copy(t, a, src);
-        return true;
-    }
-    false
-}
-
-// Writes v over n bytes of t from place a.
-fn repeat(t: &mut [u8], a: usize, n: usize, v: u8)
-    requires { ⌜ a + n ≤ length (now t) ⌝ }
-    ensures { λ _. ⌜ now (t .exit) ≡ splice (now (t .entry)) a (replicate n v) ⌝ }
-{
-    let mut j: usize = 0;
-    while j < n {
-        t[a + j] = v;
-        j += 1;
-    }
-}
-
-// Writes v over n bytes of t from place a and answers true; where they do not lie within t, t stays and the answer is false.
-pub fn fill(t: &mut [u8], a: usize, n: usize, v: u8) -> bool
-    ensures { λ r. ⌜ r ≡ within (now (t .entry)) a n ⌝ }
-    ensures { λ _. ⌜ now (t .exit) ≡ splice (now (t .entry)) a (replicate n v) ⌝ }
-{
-    if lies_within(t, a, n) {
-        repeat(t, a, n, v);
         return true;
     }
     false

@@ -14,12 +14,15 @@ use Rattle.lent.proofs.FoldLaws.{sum-zero, sum-grow, first-holds, first-least}
 use Rattle.shares.specs.Pool.{Pool, Fit, Sound, free}
 use Rattle.shares.proofs.OthersLaws.{sum-others}
 use Rattle.shares.proofs.GrantLaws.{taken, given-free}
-use Rattle.pool.specs.Layout.{holders, cells, cellSize, unowned, size, held, owner, listed, piece, poolIn}
-use Rattle.pool.specs.Sound.{freeAt, Piece, Good}
-use Rattle.pool.specs.Calls.{grants, lowest, stored}
-use Rattle.pool.specs.View.{pieces}
-use Rattle.pool.proofs.SoundLaws.{held-low}
+use Rattle.region.specs.Layout.{holders, cells, cellSize, unowned, size, held, owner, listed, piece, poolIn}
+use Rattle.region.specs.Sound.{freeAt, Piece, Good}
+use Rattle.region.specs.Holding.{grants}
+use Rattle.pool.specs.Calls.{lowest, stored}
+use Rattle.pool.specs.Contents.{having}
+use Rattle.pool.specs.View.{pieces, shown}
+use Rattle.region.proofs.SoundLaws.{held-low, total}
 use Rattle.pool.proofs.ViewLaws.{pieces-ext}
+use Rattle.pool.proofs.ShownLaws.{pieces-in, shown-having}
 use Rattle.pool.proofs.StoredLaws.{Stores, held-own, listed-own, len-own, place-own, owner-own, held-other, owner-other, place-other, len-other, listed-holder, listed-before, piece-own, piece-other, pool-stored}
 
 -- what the lowest free cell is the first of
@@ -33,7 +36,7 @@ module _ (r : List ℕ) (i : ℕ) (g : Good r) (h : i < holders) (given : grants
 
   pub lowest-in : lowest r < cells
   unfolding lowest
-  lowest-in = le-or-lt cells (lowest r) (λ l. absurd (omega (arith, some-free, g .total, none l))) (λ l. l)
+  lowest-in = le-or-lt cells (lowest r) (λ l. absurd (omega (arith, some-free, total r g, none l))) (λ l. l)
     where
       none : cells ≤ lowest r → sum cells (freeAt r) ≡ 0
       none l = sum-zero (freeAt r) cells (λ k m. rw (first-least cells (isFree r) k (omega arith)))
@@ -89,6 +92,11 @@ module _ (r : List ℕ) (i : ℕ) (g : Good r) (h : i < holders) (given : grants
         ap (pieces q j) (held-other s j l d)
         ∙ pieces-ext r q j (held r j) (λ k m. rw (listed-other j k l m d) (same-piece l (g .pieces j k l m)))
 
+    pub stored-shows : shown q ≡ having (shown r) i (shown r .pieces i ++ (xs ∷ []))
+    unfolding shown
+    stored-shows =
+        shown-having r q i (shown r .pieces i ++ (xs ∷ [])) h (pool-stored s) (grown ∙ rw (pieces-in r i h)) others-same
+
     -- ---- soundness
 
     holdings-kept : Sound (poolIn r) (held q)
@@ -134,5 +142,5 @@ module _ (r : List ℕ) (i : ℕ) (g : Good r) (h : i < holders) (given : grants
         fit = subst Fit (sym (pool-stored s)) (g .fit);
         holdings = subst (λ (K : Pool). Sound K (held q)) (sym (pool-stored s)) holdings-kept;
         pieces = λ j k l m. eq-or-ne j i (λ e. rw e (pieces-own k (rw e at m))) (λ d. pieces-other j k l d m);
-        total = omega (arith, free-less, held-more, g .total);
+        counted = omega (arith, free-less, held-more, total r g);
       }

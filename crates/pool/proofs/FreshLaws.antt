@@ -12,8 +12,8 @@ use Rattle.lent.proofs.FoldLaws.{sum-ext, sum-zero}
 use Rattle.shares.specs.Pool.{Fit, fit}
 use Rattle.shares.proofs.GrantLaws.{fresh-sound}
 use Rattle.shares.proofs.TestLaws.{fit-facts}
-use Rattle.pool.specs.Layout.{holders, cells, unowned, sharesAt, ceilingsAt, heldAt, ownersAt, placesAt, size, held, owner, poolOf, poolIn}
-use Rattle.pool.specs.Sound.{freeAt, Good}
+use Rattle.region.specs.Layout.{holders, cells, unowned, sharesAt, ceilingsAt, heldAt, ownersAt, placesAt, size, held, owner, poolOf, poolIn}
+use Rattle.region.specs.Sound.{freeAt, Good}
 use Rattle.pool.specs.Calls.{fresh}
 use Rattle.pool.specs.View.{pieces}
 
@@ -134,7 +134,7 @@ module _ (sh ce : List ℕ) (ls : length sh ≡ holders) (lc : length ce ≡ hol
       fit = F;
       holdings = fresh-sound (poolIn q) (held q) F held-fresh;
       pieces = λ j k h l. absurd (omega (arith, held-fresh j h));
-      total = omega (arith, all-free, sum-zero (held q) holders held-fresh);
+      counted = omega (arith, all-free, sum-zero (held q) holders held-fresh);
     }
       where
         F : Fit (poolIn q)

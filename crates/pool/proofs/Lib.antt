@@ -1,11 +1,16 @@
 -- Laws of the region and of what it shows. Layers above cite Shows.
-pub mod LimitLaws
 pub mod CallLaws
-pub mod SoundLaws
 pub mod ViewLaws
+pub mod ShownLaws
+pub mod HoldingLaws
 pub mod StoredLaws
 pub mod AppendLaws
 pub mod ReleaseLaws
 pub mod FreshLaws
 pub mod ResponseLaws
+pub mod ShowsAppend
+pub mod ShowsRelease
+pub mod Shows
+pub mod FillLaws
+pub mod Vectors
 pub mod Settled

@@ -1,6 +1,6 @@
 -- A released holder: it has no pieces, the others keep theirs, and the region stays sound. Assumes nothing.
-use mathlib.Core.Path.{_≡_, refl, sym, ap, ap₂, _∙_, subst}
-use mathlib.Core.List.{List, [], _∷_}
+use mathlib.Core.Path.{_≡_, refl, sym, ap, _∙_, subst}
+use mathlib.Core.List.{List, []}
 use Prim.Native.Nat.{ℕ, zero, suc, _+_, _*_, _≤_, _<_}
 use native.Mathlib.Omega.{arith}
 use lib.ListN.{length, getD, set, length-set}
@@ -9,29 +9,19 @@ use borrow.Author.Tests.{ne-eqb}
 use Rattle.lent.specs.Place.{window}
 use Rattle.lent.specs.Fold.{sum}
 use Rattle.lent.proofs.Cases.{eq-or-ne}
-use Rattle.lent.proofs.PlaceLaws.{splice-one, window-before, window-after}
+use Rattle.lent.proofs.PlaceLaws.{window-set}
 use Rattle.lent.proofs.FoldLaws.{sum-ext, sum-grow}
 use Rattle.shares.specs.Pool.{Pool, Fit, Sound}
 use Rattle.shares.proofs.GrantLaws.{kept}
-use Rattle.pool.specs.Layout.{holders, cells, cellSize, unowned, sharesAt, ceilingsAt, heldAt, ownersAt, placesAt, lengthsAt, listsAt, cellsAt, size, held, owner, place, len, listed, piece, poolOf, poolIn}
-use Rattle.pool.specs.Sound.{freeAt, Piece, Good}
+use Rattle.region.specs.Layout.{holders, cells, cellSize, unowned, heldAt, ownersAt, placesAt, lengthsAt, listsAt, cellsAt, size, held, owner, place, len, listed, piece, poolIn}
+use Rattle.region.specs.Sound.{freeAt, Piece, Good}
+use Rattle.region.proofs.SoundLaws.{total}
 use Rattle.pool.specs.Calls.{freed}
-use Rattle.pool.specs.View.{pieces}
+use Rattle.pool.specs.Contents.{having}
+use Rattle.pool.specs.View.{pieces, shown}
 use Rattle.pool.proofs.ViewLaws.{pieces-ext}
-
--- ---- a part before a byte that is written, and one behind it
-
-module _ (t : List ℕ) (a v b n : ℕ) where
-  pub window-set-before : b + n ≤ a → window (set t a v) b n ≡ window t b n
-  window-set-before h = ap (λ (l : List ℕ). window l b n) (sym (splice-one t a v)) ∙ window-before t a (v ∷ []) b n h
-
-  pub window-set-after : a < b → window (set t a v) b n ≡ window t b n
-  window-set-after h = ap (λ (l : List ℕ). window l b n) (sym (splice-one t a v)) ∙ window-after t a (v ∷ []) b n (omega arith)
-
--- shares and ceilings go by the bytes before heldAt
-pub pool-set : (t : List ℕ) (a v : ℕ) → heldAt ≤ a → poolIn (set t a v) ≡ poolIn t
-pool-set t a v h =
-    ap₂ poolOf (window-set-before t a v sharesAt holders (omega arith)) (window-set-before t a v ceilingsAt holders (omega arith))
+use Rattle.pool.proofs.ShownLaws.{shown-having}
+use Rattle.region.proofs.LimitLaws.{pool-set}
 
 -- ---- the owners freed
 
@@ -133,9 +123,9 @@ module _ (r : List ℕ) (i : ℕ) (lr : size ≤ length r) (li : i < holders) (g
   piece-same : (c : ℕ) → c < cells → piece q c ≡ piece r c
   piece-same c h =
       ap (window q (cellsAt + c * cellSize)) (len-same c h)
-      ∙ window-set-after f (heldAt + i) 0 (cellsAt + c * cellSize) (len r c) (omega arith)
+      ∙ window-set f (heldAt + i) 0 (cellsAt + c * cellSize) (len r c) (omega arith)
       ∙ turns (λ t. window t (cellsAt + c * cellSize) (len r c)) m (omega arith)
-      (λ t o l. window-set-after t (ownersAt + listed r i o) unowned (cellsAt + c * cellSize) (len r c) (omega (arith, own o l .low)))
+      (λ t o l. window-set t (ownersAt + listed r i o) unowned (cellsAt + c * cellSize) (len r c) (omega (arith, own o l .low)))
 
   pub emptied : pieces q i (held q i) ≡ []
   unfolding pieces
@@ -145,6 +135,9 @@ module _ (r : List ℕ) (i : ℕ) (lr : size ≤ length r) (li : i < holders) (g
   others-stay j h d =
       ap (pieces q j) (held-same j h d)
       ∙ pieces-ext r q j (held r j) (λ k l. rw (listed-same j k) (piece-same (listed r j k) (g .pieces j k h l .low)))
+
+  pub emptied-shows : shown q ≡ having (shown r) i []
+  emptied-shows = shown-having r q i [] li pool-released emptied others-stay
 
   -- a piece of another holder stays its
   piece-stays : (j k c : ℕ) → (j ≡ i → ⊥) → Piece r j k c → Piece q j k c
@@ -174,5 +167,5 @@ module _ (r : List ℕ) (i : ℕ) (lr : size ≤ length r) (li : i < holders) (g
     holdings = subst (λ (K : Pool). Sound K (held q)) (sym pool-released)
         (kept (poolIn r) (g .fit) (held r) (held q) i li held-same (g .holdings) (omega (arith, held-none)));
     pieces = pieces-good;
-    total = omega (arith, free-more, held-less, g .total);
+    counted = omega (arith, free-more, held-less, total r g);
   }

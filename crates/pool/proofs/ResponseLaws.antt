@@ -11,8 +11,8 @@ use borrow.Author.Tests.{lt-ltb, le-ltb, le-leb, lt-leb, leb-true}
 use Rattle.lent.specs.Place.{window, splice}
 use Rattle.lent.proofs.Cases.{cond-case, le-or-lt, and-left, and-right}
 use Rattle.lent.proofs.PlaceLaws.{length-window, splice-append}
-use Rattle.pool.specs.Layout.{holders, cells, cellSize, cellsAt, size, held, len, listed, piece}
-use Rattle.pool.specs.Sound.{pieceSize, Piece, Good}
+use Rattle.region.specs.Layout.{holders, cells, cellSize, cellsAt, size, held, len, listed, piece}
+use Rattle.region.specs.Sound.{pieceSize, Piece, Good}
 use Rattle.pool.specs.Calls.{bytesIn, joined}
 use Rattle.pool.specs.Contents.{join, sized}
 use Rattle.pool.specs.View.{pieces}

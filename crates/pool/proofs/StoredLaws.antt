@@ -1,23 +1,16 @@
 -- What stands where after a piece was stored. Assumes nothing.
 use Prim.Native.Nat.{ℕ, _+_, _*_, _≤_, _<_}
-use mathlib.Core.Path.{_≡_, sym, ap, ap₂, _∙_}
-use mathlib.Core.List.{List, [], _∷_}
+use mathlib.Core.Path.{_≡_, ap, _∙_}
+use mathlib.Core.List.{List}
 use native.Mathlib.Omega.{arith}
 use lib.ListN.{length, getD, set, length-set}
 use lib.Seq.{getD-set-same, getD-set-other}
 use Rattle.lent.specs.Place.{window, splice}
 use Rattle.lent.proofs.Cases.{le-or-lt}
-use Rattle.lent.proofs.PlaceLaws.{splice-one, length-splice, window-before, window-after, window-same, byte-before}
-use Rattle.pool.specs.Layout.{holders, cells, cellSize, sharesAt, ceilingsAt, heldAt, ownersAt, placesAt, lengthsAt, listsAt, cellsAt, size, held, owner, place, len, listed, piece, poolOf, poolIn}
+use Rattle.lent.proofs.PlaceLaws.{length-splice, window-before, window-after, window-same, byte-before, window-set}
+use Rattle.region.specs.Layout.{holders, cells, cellSize, heldAt, ownersAt, placesAt, lengthsAt, listsAt, cellsAt, size, held, owner, place, len, listed, piece, poolIn}
 use Rattle.pool.specs.Calls.{stored}
-
--- a byte written outside a part leaves it as it was
-pub window-set : (t : List ℕ) (p v b n : ℕ) → (b ≤ p → p < b + n → ⊥) → window (set t p v) b n ≡ window t b n
-window-set t p v b n out =
-    ap (λ (l : List ℕ). window l b n) (sym (splice-one t p v))
-    ∙ le-or-lt b p
-    (λ h. le-or-lt (b + n) p (window-before t p (v ∷ []) b n) (λ l. absurd (out h l)))
-    (λ h. window-after t p (v ∷ []) b n (omega arith))
+use Rattle.region.proofs.LimitLaws.{pool-head}
 
 pub length-stored : (r : List ℕ) (i n c : ℕ) (xs : List ℕ) → length (stored r i n c xs) ≡ length r
 unfolding stored
@@ -159,9 +152,8 @@ module _ {r : List ℕ} {i n c : ℕ} {xs : List ℕ} (s : Stores r i n c xs) wh
       (λ g. window-after r (cellsAt + c * cellSize) xs (cellsAt + d * cellSize) (len r d) (omega arith))
       (λ g. window-before r (cellsAt + c * cellSize) xs (cellsAt + d * cellSize) (len r d) (omega arith))
 
-  head-part : (b : ℕ) → b + holders ≤ heldAt → window q b holders ≡ window r b holders
-  head-part b h = window-off b holders (omega arith) ∙ window-before r (cellsAt + c * cellSize) xs b holders (omega arith)
-
   -- shares and ceilings stay
   pub pool-stored : poolIn q ≡ poolIn r
-  pool-stored = ap₂ poolOf (head-part sharesAt (omega arith)) (head-part ceilingsAt (omega arith))
+  pool-stored =
+      pool-head q r
+      (λ b h. window-off b holders (omega arith) ∙ window-before r (cellsAt + c * cellSize) xs b holders (omega arith))

@@ -4,7 +4,7 @@ use mathlib.Core.List.{List, [], _∷_, _++_}
 use Prim.Native.Nat.{ℕ, zero, suc, _<_}
 use native.Mathlib.Omega.{arith}
 use lib.ListN.{length, length-append}
-use Rattle.pool.specs.Layout.{listed, piece}
+use Rattle.region.specs.Layout.{listed, piece}
 use Rattle.pool.specs.View.{pieces}
 
 -- the same bytes in the cells that are listed, the same pieces

@@ -7,9 +7,10 @@ use lib.Dec.{eqb, ltb, leb}
 use lib.ListN.{length, set, replicate}
 use Rattle.lent.specs.Place.{within, splice}
 use Rattle.lent.specs.Fold.{first}
-use Rattle.shares.specs.Pool as pool
-use Rattle.pool.specs.Layout.{holders, cells, cellSize, unowned, heldAt, ownersAt, placesAt, lengthsAt, listsAt, cellsAt, size, held, owner, len, listed, piece, poolOf, poolIn}
-use Rattle.pool.specs.Sound.{pieceSize}
+use Rattle.shares.specs.Pool.{fit}
+use Rattle.region.specs.Layout.{holders, cells, cellSize, unowned, heldAt, ownersAt, placesAt, lengthsAt, listsAt, cellsAt, size, held, owner, len, listed, piece, poolOf}
+use Rattle.region.specs.Sound.{pieceSize}
+use Rattle.region.specs.Holding.{inside, granted}
 
 -- ---- a fresh region
 
@@ -19,28 +20,10 @@ fresh shares ceilings =
     shares ++ ceilings ++ replicate holders 0 ++ replicate cells unowned ++ replicate (size - placesAt) 0
 
 unfoldable pub laysOut : List ℕ → List ℕ → List ℕ → Bool
-laysOut r shares ceilings = within r 0 size && pool.fit (poolOf shares ceilings)
+laysOut r shares ceilings = within r 0 size && fit (poolOf shares ceilings)
 
 unfoldable pub laidOut : List ℕ → List ℕ → List ℕ → List ℕ
 laidOut r shares ceilings = cond (laysOut r shares ceilings) (splice r 0 (fresh shares ceilings)) r
-
--- ---- holders and cells
-
--- there is a region, and i is one of its holders
-unfoldable pub inside : List ℕ → ℕ → Bool
-inside r i = leb size (length r) && ltb i holders
-
-unfoldable pub heldBy : List ℕ → ℕ → ℕ
-heldBy r i = cond (inside r i) (held r i) 0
-
-unfoldable pub freeCells : List ℕ → ℕ
-freeCells r = cond (leb size (length r)) (pool.free (poolIn r) (held r)) 0
-
-unfoldable pub grants : List ℕ → ℕ → Bool
-grants r i = pool.granted (poolIn r) (held r) i
-
-unfoldable pub granted : List ℕ → ℕ → Bool
-granted r i = inside r i && grants r i
 
 -- ---- append
 
@@ -53,12 +36,12 @@ unfoldable pub stored : List ℕ → ℕ → ℕ → ℕ → List ℕ → List �
 stored r i n c xs =
     set (set (set (set (set (splice r (cellsAt + c * cellSize) xs) (ownersAt + c) i) (placesAt + c) n) (lengthsAt + c) (length xs)) (listsAt + (i * cells + n)) c) (heldAt + i) (n + 1)
 
--- a cell is taken where the rule grants one (in a sound region one is then free)
+-- a cell is taken where one is granted (in a sound region one is then free)
 unfoldable pub takes : List ℕ → ℕ → Bool
-takes r i = grants r i && ltb (lowest r) cells
+takes r i = granted r i && ltb (lowest r) cells
 
 unfoldable pub appends : List ℕ → ℕ → List ℕ → Bool
-appends r i xs = inside r i && (pieceSize (length xs) && takes r i)
+appends r i xs = pieceSize (length xs) && takes r i
 
 unfoldable pub appended : List ℕ → ℕ → List ℕ → List ℕ
 appended r i xs = cond (appends r i xs) (stored r i (held r i) (lowest r) xs) r

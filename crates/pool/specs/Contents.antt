@@ -5,7 +5,7 @@ use mathlib.Core.List.{List, [], _∷_, _++_}
 use lib.Dec.{eqb, ltb}
 use lib.ListN.{length}
 use Rattle.shares.specs.Pool.{Pool, granted}
-use Rattle.pool.specs.Sound.{pieceSize}
+use Rattle.region.specs.Sound.{pieceSize}
 
 pub record Contents : Type 0 where
   pub limits : Pool

@@ -5,9 +5,10 @@ use mathlib.Core.Bool.{true, false}
 use mathlib.Core.List.{List}
 use lib.ListN.{length}
 use Rattle.shares.specs.Pool.{Fit, Sound, free}
-use Rattle.pool.specs.Layout.{holders, poolOf}
-use Rattle.pool.specs.Sound.{sound}
-use Rattle.pool.specs.Calls.{laysOut, laidOut, heldBy, freeCells, granted, appends, appended, released, response}
+use Rattle.region.specs.Layout.{holders, poolOf}
+use Rattle.region.specs.Sound.{sound}
+use Rattle.region.specs.Holding.{heldBy, freeCells, granted}
+use Rattle.pool.specs.Calls.{laysOut, laidOut, appends, appended, released, response}
 use Rattle.pool.specs.Contents.{empty, holding, grantedIn, takesPiece, appendTo, releaseOf, join, sized}
 use Rattle.pool.specs.View.{shown}
 

@@ -3,7 +3,7 @@ use Prim.Native.Nat.{ℕ, zero, suc}
 use mathlib.Core.Bool.{cond}
 use mathlib.Core.List.{List, [], _∷_, _++_}
 use lib.Dec.{ltb}
-use Rattle.pool.specs.Layout.{holders, held, listed, piece, poolIn}
+use Rattle.region.specs.Layout.{holders, held, listed, piece, poolIn}
 use Rattle.pool.specs.Contents.{Contents}
 
 -- the first n pieces of holder i

@@ -3,7 +3,7 @@ ghost use mathlib.Core.Path.{_≡_};
 ghost use Prim.Native.Nat.{_≤_};
 ghost use lib.ListN.{length};
 ghost use Rattle.lent.specs.Place.{splice};
-ghost use Rattle.pool.specs.Layout.{size};
+ghost use Rattle.region.specs.Layout.{size};
 ghost use Rattle.pool.specs.Calls.{fresh, laysOut, laidOut};
 
 // Writes every byte of the region, so that nothing of an earlier pool remains.
@@ -11,15 +11,15 @@ fn write_all(r: &mut [u8], shares: &[u8; 8], ceilings: &[u8; 8])
     requires { ⌜ size ≤ length (now r) ⌝ }
     ensures { λ _. ⌜ now (r .exit) ≡ splice (now (r .entry)) 0 (fresh (now (shares .entry)) (now (ceilings .entry))) ⌝ }
 {
-    lent::put(r, super::layout::SHARES, shares);
-    lent::put(r, super::layout::CEILINGS, ceilings);
-    lent::fill(r, super::layout::HELD, super::layout::HOLDERS, 0);
-    let map = [super::layout::UNOWNED; 96];
-    lent::put(r, super::layout::OWNERS, &map);
+    lent::put(r, region::layout::SHARES, shares);
+    lent::put(r, region::layout::CEILINGS, ceilings);
+    lent::fill(r, region::layout::HELD, region::layout::HOLDERS, 0);
+    let map = [region::layout::UNOWNED; 96];
+    lent::put(r, region::layout::OWNERS, &map);
     lent::fill(
         r,
-        super::layout::PLACES,
-        super::layout::SIZE - super::layout::PLACES,
+        region::layout::PLACES,
+        region::layout::SIZE - region::layout::PLACES,
         0,
     );
 }
@@ -30,10 +30,10 @@ pub fn lay_out(r: &mut [u8], shares: &[u8; 8], ceilings: &[u8; 8]) -> bool
     ensures { λ b. ⌜ b ≡ laysOut (now (r .entry)) (now (shares .entry)) (now (ceilings .entry)) ⌝ }
     ensures { λ _. ⌜ now (r .exit) ≡ laidOut (now (r .entry)) (now (shares .entry)) (now (ceilings .entry)) ⌝ }
 {
-    if r.len() < super::layout::SIZE {
+    if r.len() < region::layout::SIZE {
         return false;
     }
-    if super::limits::acceptable(shares, ceilings) {
+    if region::acceptable(shares, ceilings) {
         write_all(r, shares, ceilings);
         return true;
     }

@@ -3,7 +3,7 @@ ghost use mathlib.Core.Path.{_≡_};
 ghost use Prim.Native.Nat.{_≤_, _<_};
 ghost use lib.ListN.{length};
 ghost use Rattle.lent.specs.Place.{within, splice};
-ghost use Rattle.pool.specs.Layout.{holders, cellSize, size, held, listed};
+ghost use Rattle.region.specs.Layout.{holders, cellSize, size, held, listed};
 ghost use Rattle.pool.specs.Calls.{bytesIn, joined, response, copied};
 
 // The bytes in cell c, none where its number or its length is out of range.
@@ -11,14 +11,14 @@ fn bytes_of(r: &[u8], c: usize) -> &[u8]
     requires { ⌜ size ≤ length (now r) ⌝ }
     ensures { λ w. ⌜ now w ≡ bytesIn (now (r .entry)) c ⌝ }
 {
-    if super::layout::CELLS <= c {
+    if region::layout::CELLS <= c {
         return lent::part(r, 0, 0);
     }
-    let n = super::layout::wide(r[super::layout::LENGTHS + c]);
-    if super::layout::CELL < n {
+    let n = lent::wide(r[region::layout::LENGTHS + c]);
+    if region::layout::CELL < n {
         return lent::part(r, 0, 0);
     }
-    lent::part(r, super::layout::CONTENTS + c * super::layout::CELL, n)
+    lent::part(r, region::layout::CONTENTS + c * region::layout::CELL, n)
 }
 
 // Holder i's piece k.
@@ -28,7 +28,7 @@ fn piece_of(r: &[u8], i: usize, k: usize) -> &[u8]
 {
     bytes_of(
         r,
-        super::layout::wide(r[super::layout::LISTS + (i * super::layout::CELLS + k)]),
+        lent::wide(r[region::layout::LISTS + (i * region::layout::CELLS + k)]),
     )
 }
 
@@ -37,7 +37,7 @@ fn length_in_all(r: &[u8], i: usize) -> usize
     requires { ⌜ (size ≤ length (now r)) × (i < holders) ⌝ }
     ensures { λ n. ⌜ n ≡ length (joined (now (r .entry)) i (held (now (r .entry)) i)) ⌝ }
 {
-    let n = super::layout::wide(r[super::layout::HELD + i]);
+    let n = lent::wide(r[region::layout::HELD + i]);
     let mut total: usize = 0;
     let mut k: usize = 0;
     while k < n {
@@ -52,7 +52,7 @@ fn join_into(r: &[u8], i: usize, out: &mut [u8])
     requires { ⌜ (size ≤ length (now r)) × (i < holders) × (length (joined (now r) i (held (now r) i)) ≤ length (now out)) ⌝ }
     ensures { λ _. ⌜ now (out .exit) ≡ splice (now (out .entry)) 0 (joined (now (r .entry)) i (held (now (r .entry)) i)) ⌝ }
 {
-    let n = super::layout::wide(r[super::layout::HELD + i]);
+    let n = lent::wide(r[region::layout::HELD + i]);
     let mut at: usize = 0;
     let mut k: usize = 0;
     while k < n {
@@ -67,7 +67,7 @@ fn join_into(r: &[u8], i: usize, out: &mut [u8])
 pub fn response_length(r: &[u8], i: usize) -> usize
     ensures { λ n. ⌜ n ≡ length (response (now (r .entry)) i) ⌝ }
 {
-    if super::layout::is_inside(r, i) {
+    if region::is_holder(r, i) {
         return length_in_all(r, i);
     }
     0
@@ -78,7 +78,7 @@ pub fn copy_out(r: &[u8], i: usize, out: &mut [u8]) -> bool
     ensures { λ b. ⌜ b ≡ within (now (out .entry)) 0 (length (response (now (r .entry)) i)) ⌝ }
     ensures { λ _. ⌜ now (out .exit) ≡ copied (now (r .entry)) i (now (out .entry)) ⌝ }
 {
-    if super::layout::is_inside(r, i) {
+    if region::is_holder(r, i) {
         if length_in_all(r, i) <= out.len() {
             join_into(r, i, out);
             return true;

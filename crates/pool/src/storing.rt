@@ -3,7 +3,7 @@ ghost use mathlib.Core.Path.{_≡_};
 ghost use mathlib.Core.Bool.{cond};
 ghost use Prim.Native.Nat.{_≤_, _<_};
 ghost use lib.ListN.{length};
-ghost use Rattle.pool.specs.Layout.{holders, cells, cellSize, size, held};
+ghost use Rattle.region.specs.Layout.{holders, cells, cellSize, size, held};
 ghost use Rattle.pool.specs.Calls.{lowest, stored, takes, appends, appended};
 
 // The lowest cell that nobody owns; 96 where there is none.
@@ -12,8 +12,8 @@ fn lowest_free(r: &[u8]) -> usize
     ensures { λ n. ⌜ n ≡ lowest (now (r .entry)) ⌝ }
 {
     let mut c: usize = 0;
-    while c < super::layout::CELLS {
-        if r[super::layout::OWNERS + c] == super::layout::UNOWNED {
+    while c < region::layout::CELLS {
+        if r[region::layout::OWNERS + c] == region::layout::UNOWNED {
             return c;
         }
         c += 1;
@@ -26,24 +26,24 @@ fn store(r: &mut [u8], i: usize, c: usize, xs: &[u8])
     requires { ⌜ (size ≤ length (now r)) × (i < holders) × (c < cells) × (length (now xs) ≤ cellSize) × (held (now r) i < 255) ⌝ }
     ensures { λ _. ⌜ now (r .exit) ≡ stored (now (r .entry)) i (held (now (r .entry)) i) c (now (xs .entry)) ⌝ }
 {
-    let n = r[super::layout::HELD + i];
-    lent::put(r, super::layout::CONTENTS + c * super::layout::CELL, xs);
-    r[super::layout::OWNERS + c] = i as u8;
-    r[super::layout::PLACES + c] = n;
-    r[super::layout::LENGTHS + c] = xs.len() as u8;
-    r[super::layout::LISTS + (i * super::layout::CELLS + super::layout::wide(n))] = c as u8;
-    r[super::layout::HELD + i] = n + 1;
+    let n = r[region::layout::HELD + i];
+    lent::put(r, region::layout::CONTENTS + c * region::layout::CELL, xs);
+    r[region::layout::OWNERS + c] = i as u8;
+    r[region::layout::PLACES + c] = n;
+    r[region::layout::LENGTHS + c] = xs.len() as u8;
+    r[region::layout::LISTS + (i * region::layout::CELLS + lent::wide(n))] = c as u8;
+    r[region::layout::HELD + i] = n + 1;
 }
 
-// Takes the lowest free cell for xs, if the rule grants holder i a cell.
+// Takes the lowest free cell for xs, if holder i is granted a cell.
 fn take(r: &mut [u8], i: usize, xs: &[u8]) -> bool
-    requires { ⌜ (size ≤ length (now r)) × (i < holders) × (length (now xs) ≤ cellSize) ⌝ }
+    requires { ⌜ length (now xs) ≤ cellSize ⌝ }
     ensures { λ b. ⌜ b ≡ takes (now (r .entry)) i ⌝ }
     ensures { λ _. ⌜ now (r .exit) ≡ cond (takes (now (r .entry)) i) (stored (now (r .entry)) i (held (now (r .entry)) i) (lowest (now (r .entry))) (now (xs .entry))) (now (r .entry)) ⌝ }
 {
-    if super::holding::grants_to(r, i) {
+    if region::granted(r, i) {
         let c = lowest_free(r);
-        if c < super::layout::CELLS {
+        if c < region::layout::CELLS {
             store(r, i, c, xs);
             return true;
         }
@@ -58,11 +58,8 @@ pub fn append(r: &mut [u8], i: usize, piece: &[u8]) -> bool
     ensures { λ b. ⌜ b ≡ appends (now (r .entry)) i (now (piece .entry)) ⌝ }
     ensures { λ _. ⌜ now (r .exit) ≡ appended (now (r .entry)) i (now (piece .entry)) ⌝ }
 {
-    if super::layout::is_inside(r, i) {
-        if super::layout::is_piece_size(piece.len()) {
-            return take(r, i, piece);
-        }
-        return false;
+    if region::is_piece_size(piece.len()) {
+        return take(r, i, piece);
     }
     false
 }

@@ -3,3 +3,4 @@
 mod grant;
 
 pub use grant::given;
+pub use grant::lack;

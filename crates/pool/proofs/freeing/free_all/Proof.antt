@@ -5,7 +5,7 @@ use native.Mathlib.Numerals.{add-one}
 use native.Mathlib.Omega.{arith}
 use lib.ListN.{length, length-set}
 use borrow.Author.Needs.{needs}
-use Rattle.pool.specs.Layout.{held}
+use Rattle.region.specs.Layout.{held}
 use Rattle.pool.specs.Calls.{freed}
 use Rattle.pool.proofs.freeing.free_all.Statement.{statement}
 use Rattle.pool.proofs.freeing.free_all.Tie as tie

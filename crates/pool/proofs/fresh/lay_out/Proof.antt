@@ -7,7 +7,7 @@ use lib.ListN.{length}
 use denote.Ref.{now}
 use borrow.Author.Needs.{needs}
 use borrow.Author.Tests.{lt-leb, le-leb}
-use Rattle.pool.specs.Layout.{size}
+use Rattle.region.specs.Layout.{size}
 use Rattle.pool.specs.Calls.{laysOut}
 use Rattle.pool.proofs.CallLaws.{laid-yes, laid-no}
 use Rattle.pool.proofs.fresh.lay_out.Statement.{statement}
@@ -32,14 +32,14 @@ same-length c = search needs
 returns-2 : tie.Need-returns-2
 unfolding laysOut
 returns-2 c =
-    let a = c .before .before .before .before .before .before .before .before .args in
+    let a = c .before .before .before .before .before .before .before .before .before .before .args in
     let e : laysOut (now (a .r)) (now (a .shares)) (now (a .ceilings)) ≡ true = rw (le-leb (0 + size) (length (now (a .r))) (omega arith), sym (c .before .before .before .before .before .acceptable .ensures) ∙ c .before .before .before .before .if2 .taken) in
     (sym e, c .before .before .write-all .ensures ∙ sym (laid-yes (now (a .r)) (now (a .shares)) (now (a .ceilings)) e))
 
 returns-3 : tie.Need-returns-3
 unfolding laysOut
 returns-3 c =
-    let a = c .before .before .before .before .args in
+    let a = c .before .before .before .before .before .before .args in
     let e : laysOut (now (a .r)) (now (a .shares)) (now (a .ceilings)) ≡ false = rw (le-leb (0 + size) (length (now (a .r))) (omega arith), sym (c .before .acceptable .ensures) ∙ c .if2 .left) in
     (sym e, sym (laid-no (now (a .r)) (now (a .shares)) (now (a .ceilings)) e))
 

@@ -4,7 +4,7 @@ use mathlib.Core.Path.{sym, ap, _∙_}
 use native.Mathlib.Omega.{arith}
 use denote.Ref.{now}
 use borrow.Author.Needs.{needs}
-use Rattle.pool.specs.Layout.{cellSize, cellsAt}
+use Rattle.region.specs.Layout.{cellSize, cellsAt}
 use Rattle.pool.proofs.ResponseLaws.{bytes-piece, bytes-far, bytes-long}
 use Rattle.lent.proofs.PlaceLaws.{window-none}
 use Rattle.lent.specs.Place.{window}

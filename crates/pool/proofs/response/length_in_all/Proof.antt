@@ -5,7 +5,7 @@ use native.Mathlib.Omega.{arith}
 use lib.ListN.{length}
 use denote.Ref.{now}
 use borrow.Author.Needs.{needs}
-use Rattle.pool.specs.Layout.{cellSize, held}
+use Rattle.region.specs.Layout.{cellSize, held}
 use Rattle.pool.specs.Calls.{joined}
 use Rattle.pool.proofs.ResponseLaws.{length-step}
 use Rattle.pool.proofs.response.length_in_all.Statement.{statement}

@@ -4,7 +4,7 @@ use native.Mathlib.Omega.{arith}
 use lib.ListN.{length}
 use denote.Ref.{now}
 use borrow.Author.Needs.{needs}
-use Rattle.pool.specs.Layout.{listed}
+use Rattle.region.specs.Layout.{listed}
 use Rattle.pool.specs.Calls.{bytesIn}
 use Rattle.pool.proofs.ResponseLaws.{bytes-short}
 use Rattle.pool.proofs.response.piece_of.Statement.{statement}

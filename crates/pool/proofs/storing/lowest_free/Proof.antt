@@ -6,7 +6,7 @@ use native.Mathlib.Omega.{arith}
 use lib.Dec.{eqb}
 use denote.Ref.{now}
 use borrow.Author.Tests.{eq-eqb, ne-eqb}
-use Rattle.pool.specs.Layout.{cells, unowned, owner}
+use Rattle.region.specs.Layout.{cells, unowned, owner}
 use Rattle.pool.specs.Calls.{lowest}
 use Rattle.lent.proofs.FoldLaws.{first-is, first-none}
 use Rattle.lent.proofs.Cases.{eq-or-ne}

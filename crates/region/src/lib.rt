@@ -1,0 +1,14 @@
+// The pool's region of bytes, read: what stands where, whether shares and ceilings pass, what holders hold, who gets a
+// cell, and whether all of it is sound. Which bytes stand where is in docs/LAYOUT.md and specs/Layout.
+mod holding;
+pub mod layout;
+mod limits;
+mod sound;
+
+pub use holding::free;
+pub use holding::granted;
+pub use holding::held;
+pub use layout::is_holder;
+pub use layout::is_piece_size;
+pub use limits::acceptable;
+pub use sound::is_sound;
