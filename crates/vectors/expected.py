@@ -1,5 +1,6 @@
 #!/usr/bin/env python3
-"""What `vectors` must print, worked out from document 01 alone ("Reading an ATR", "Reading a block", P1 to P10).
+"""What `vectors` must print, worked out from document 01 ("Reading an ATR", "Reading a block", "Shares", P1 to P12) and,
+for the pool's bytes, docs/LAYOUT.md.
 
 Nothing here is taken from the Rattle side or from its output: what the paper prints stands as it prints it, and the
 rest goes by a reading of the paper's sentences. docs/VECTORS.md says more.
@@ -10,6 +11,9 @@ rest goes by a reading of the paper's sentences. docs/VECTORS.md says more.
 import sys
 from functools import reduce
 from pathlib import Path
+
+sys.dont_write_bytecode = True
+from pool import Pool, opens, sound  # noqa: E402
 
 LIST = Path(__file__).with_name("atrs.txt")
 
@@ -198,12 +202,98 @@ def every_pcb():
             print(f"LEN {n}, LRC {word}:" + "".join(f" {counts[k]}" for k in NAMES))
 
 
+def yes(flag):
+    return "yes" if flag else "no"
+
+
+def opening(pool_before, shares, ceilings):
+    """The pool that is laid out, or the one before where open is refused."""
+    pool = Pool(shares, ceilings) if opens(shares, ceilings) else pool_before
+    whole = pool is not None and sound(pool.region())
+    print(f"shares{hexed(shares)} ceilings{hexed(ceilings)}: opens {yes(opens(shares, ceilings))}, sound {yes(whole)}")
+    return pool
+
+
+def holding(pool, i):
+    print(f" held {pool.held(i)} free {pool.free()} next {yes(pool.granted(i))}")
+
+
+def eleven():
+    print("P11")
+    pool = opening(None, [10] * 8, [96] + [10] * 7)
+    for n in range(1, 28):
+        taken = pool.append(0, bytes([n]) * n)
+        assert taken == (n <= 26)
+        print(f"piece {n}: taken {yes(taken)}", end="")
+        holding(pool, 0)
+        if n == 25:
+            # the paper's own figures
+            assert pool.free() == 71 and sum(10 - pool.held(j) for j in range(1, 8)) == 70
+    print(f"response {len(pool.response(0))}: copied yes{hexed(pool.response(0))}")
+    pool.release(0)
+    print("released:", end="")
+    holding(pool, 0)
+
+
+def twelve():
+    print("P12")
+    pool = opening(None, [12] * 8, [96] * 8)
+    for shares, ceilings in (
+        ([13] + [12] * 7, [96] * 8),
+        ([0] * 7 + [96], [0] * 7 + [96]),
+        ([0] * 8, [0] * 7 + [97]),
+        ([1] + [0] * 7, [0] + [96] * 7),
+    ):
+        pool = opening(pool, shares, ceilings)
+
+
+def folded(d, v):
+    return (d * 31 + v) % 65521
+
+
+def mixed():
+    """Appends and releases by a counter, holder 8 and pieces of 0 and 255 bytes among them."""
+    print("mixed")
+    pool = opening(None, [4, 12, 20, 0, 10, 10, 10, 10], [10, 40, 96, 3, 10, 12, 50, 96])
+    x, d = 1, 0
+    for _ in range(3000):
+        x = (x * 1103 + 12345) % 65536
+        i, answer = x // 16 % 9, 2
+        if x // 256 % 64 == 0:
+            pool.release(i)
+        elif pool.append(i, bytes([x % 251]) * (x // 16 % 256)):
+            answer = 1
+        d = folded(d, answer + 3 + pool.held(i) * 8 + pool.free() * 2048)
+    region = pool.region()
+    assert sound(region)
+    print(f"answers {d} bytes {reduce(folded, region, 0)}")
+    for i in range(9):
+        print(f"holder {i}: length {len(pool.response(i))}", end="")
+        holding(pool, i)
+    return region
+
+
+def damaged(region, v):
+    places = [a for a in range(1080) if sound(region[:a] + bytes([region[a] ^ v]) + region[a + 1 :])]
+    print(f"changed by {v:02x}: sound at {reduce(folded, places, 0)}")
+
+
+def cells():
+    eleven()
+    twelve()
+    region = mixed()
+    for v in (1, 2, 128, 255):
+        damaged(region, v)
+    print(f"one byte short: sound {yes(sound(region[:-1]))}")
+
+
 if sys.argv[1:] == ["stdin"]:
     sys.stdout.buffer.write(b"".join(bytes([len(a), *a]) for a in listed()))
 else:
     paper()
     limits()
     every_pcb()
+    cells()
     print("the list")
     for a in listed():
         card(a)

@@ -21,9 +21,8 @@ pub fn given(held: u8, share: u8, ceiling: u8, lacking: u16, free: u8) -> bool
 pub fn lack(share: u8, held: u8) -> u16
     ensures { λ r. ⌜ (r ≡ share - held) × (r < 256) ⌝ }
 {
-    if held < share {
-        (share - held) as u16
-    } else {
-        0
+    if share <= held {
+        return 0;
     }
+    (share - held) as u16
 }

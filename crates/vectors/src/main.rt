@@ -1,6 +1,8 @@
-// Document 01's bytes to test with, and a list of ATRs, run: prints what the product reads and builds. `stdout` beside
+// Document 01's bytes to test with, a pool at work, and a list of ATRs, run: prints what the product reads, builds and
+// keeps. `stdout` beside
 // src/ holds what it must print, worked out apart from the product (docs/VECTORS.md).
 mod cards;
+mod cells;
 mod codec;
 mod print;
 
@@ -9,5 +11,6 @@ fn main() {
     codec::paper();
     codec::limits();
     codec::every_code();
+    cells::run();
     cards::listed();
 }
