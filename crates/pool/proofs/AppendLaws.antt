@@ -46,7 +46,7 @@ module _ (r : List ℕ) (i : ℕ) (g : Good r) (h : i < holders) (given : grants
   lowest-free = eqb-true (owner r (lowest r)) unowned (first-holds cells (isFree r) lowest-in)
 
   -- there is a place in its list
-  pub held-less : held r i < cells
+  held-less : held r i < cells
   held-less = omega (arith, some-free, sum-others holders i (held r) h)
 
   module _ (xs : List ℕ) (long : size ≤ length r) (short : length xs ≤ cellSize) where
@@ -79,7 +79,7 @@ module _ (r : List ℕ) (i : ℕ) (g : Good r) (h : i < holders) (given : grants
 
     -- ---- the view
 
-    pub grown : pieces q i (held q i) ≡ pieces r i (held r i) ++ (xs ∷ [])
+    grown : pieces q i (held q i) ≡ pieces r i (held r i) ++ (xs ∷ [])
     unfolding pieces
     grown =
         ap (pieces q i) (held-own s ∙ add-one (held r i))
@@ -87,7 +87,7 @@ module _ (r : List ℕ) (i : ℕ) (g : Good r) (h : i < holders) (given : grants
         (pieces-ext r q i (held r i) (λ k l. rw (listed-before s k l) (same-piece h (g .pieces i k h l))))
         (ap (piece q) (listed-own s) ∙ piece-own s)
 
-    pub others-same : (j : ℕ) → j < holders → (j ≡ i → ⊥) → pieces q j (held q j) ≡ pieces r j (held r j)
+    others-same : (j : ℕ) → j < holders → (j ≡ i → ⊥) → pieces q j (held q j) ≡ pieces r j (held r j)
     others-same j l d =
         ap (pieces q j) (held-other s j l d)
         ∙ pieces-ext r q j (held r j) (λ k m. rw (listed-other j k l m d) (same-piece l (g .pieces j k l m)))

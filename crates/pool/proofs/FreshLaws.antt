@@ -117,7 +117,7 @@ module _ (sh ce : List ℕ) (ls : length sh ≡ holders) (lc : length ce ≡ hol
         ∙ byte-before q4 placesAt rest (ownersAt + c) (omega arith)
         ∙ byte-inside q3 ownersAt owners c (simp (lengths, length-splice) (omega arith)) (simp lengths (omega arith))
 
-    pub held-fresh : (j : ℕ) → j < holders → held q j ≡ 0
+    held-fresh : (j : ℕ) → j < holders → held q j ≡ 0
     unfolding counts
     held-fresh j h = counts-at j h ∙ getD-replicate {A = ℕ} holders j 0 0 h
 

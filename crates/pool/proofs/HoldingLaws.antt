@@ -40,7 +40,7 @@ module _ (r : List ℕ) where
   holding-held i h = holding-is i ∙ rw (lt-ltb i holders h)
 
   -- the rule goes by what is shown
-  pub grants-shown : (i : ℕ) → i < holders → grants r i ≡ pool.granted (shown r .limits) (holding (shown r)) i
+  grants-shown : (i : ℕ) → i < holders → grants r i ≡ pool.granted (shown r .limits) (holding (shown r)) i
   unfolding grants shown
   grants-shown i h = granted-ext (poolIn r) (held r) (holding (shown r)) i h (λ j l. sym (holding-held j l))
 

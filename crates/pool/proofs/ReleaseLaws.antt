@@ -97,7 +97,7 @@ module _ (r : List ℕ) (i : ℕ) (lr : size ≤ length r) (li : i < holders) (g
       getD-set-other f (heldAt + i) a 0 0 n
       ∙ turns (λ t. getD t a 0) m (omega arith) (λ t o l. getD-set-other t (ownersAt + listed r i o) a unowned 0 (w (listed r i o) (own o l .low)))
 
-  pub pool-released : poolIn q ≡ poolIn r
+  pool-released : poolIn q ≡ poolIn r
   pool-released =
       pool-set f (heldAt + i) 0 (omega arith)
       ∙ turns poolIn m (omega arith) (λ t o l. pool-set t (ownersAt + listed r i o) unowned (omega arith))
@@ -127,11 +127,11 @@ module _ (r : List ℕ) (i : ℕ) (lr : size ≤ length r) (li : i < holders) (g
       ∙ turns (λ t. window t (cellsAt + c * cellSize) (len r c)) m (omega arith)
       (λ t o l. window-set t (ownersAt + listed r i o) unowned (cellsAt + c * cellSize) (len r c) (omega (arith, own o l .low)))
 
-  pub emptied : pieces q i (held q i) ≡ []
+  emptied : pieces q i (held q i) ≡ []
   unfolding pieces
   emptied = ap (pieces q i) held-none
 
-  pub others-stay : (j : ℕ) → j < holders → (j ≡ i → ⊥) → pieces q j (held q j) ≡ pieces r j (held r j)
+  others-stay : (j : ℕ) → j < holders → (j ≡ i → ⊥) → pieces q j (held q j) ≡ pieces r j (held r j)
   others-stay j h d =
       ap (pieces q j) (held-same j h d)
       ∙ pieces-ext r q j (held r j) (λ k l. rw (listed-same j k) (piece-same (listed r j k) (g .pieces j k h l .low)))

@@ -47,7 +47,7 @@ module _ (r : List ℕ) (c : ℕ) where
 -- ---- piece behind piece
 
 module _ (r : List ℕ) (i : ℕ) where
-  pub joined-step : (k : ℕ) → joined r i (k + 1) ≡ joined r i k ++ bytesIn r (listed r i k)
+  joined-step : (k : ℕ) → joined r i (k + 1) ≡ joined r i k ++ bytesIn r (listed r i k)
   unfolding joined
   joined-step k = rw add-one
 
@@ -55,7 +55,7 @@ module _ (r : List ℕ) (i : ℕ) where
   length-step k = ap length (joined-step k) ∙ length-append (joined r i k) (bytesIn r (listed r i k))
 
   -- more pieces are no shorter
-  pub joined-grows : (k n : ℕ) → k ≤ n → length (joined r i k) ≤ length (joined r i n)
+  joined-grows : (k n : ℕ) → k ≤ n → length (joined r i k) ≤ length (joined r i n)
   joined-grows k zero h = let e : k ≡ 0 = omega arith in rw e (omega arith)
   joined-grows k (suc n) h =
       le-or-lt k n

@@ -54,7 +54,7 @@ module _ (r : List ℕ) where
 
   -- ---- the region
 
-  pub sound-good : soundIn r ≡ true → Good r
+  sound-good : soundIn r ≡ true → Good r
   unfolding soundIn counted
   sound-good e =
       let e1 = and-right (pool.fit (poolIn r)) _ e in
@@ -66,7 +66,7 @@ module _ (r : List ℕ) where
         counted = eqb-true (sum cells (freeAt r)) (pool.free (poolIn r) (held r)) (and-left _ _ e2);
       }
 
-  pub good-sound : Good r → soundIn r ≡ true
+  good-sound : Good r → soundIn r ≡ true
   unfolding soundIn counted
   good-sound g =
       rw (
