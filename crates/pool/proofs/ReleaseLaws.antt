@@ -37,25 +37,13 @@ module _ (r : List ℕ) (i : ℕ) (lr : size ≤ length r) (li : i < holders) (g
   own : (k : ℕ) → k < m → Piece r i k (listed r i k)
   own k h = g .pieces i k li h
 
-  listed-kept : (k : ℕ) → k ≤ m → (o : ℕ) → listed (freed r i k) i o ≡ listed r i o
-  unfolding freed
-  listed-kept zero h o = refl
-  listed-kept (suc k) h o =
-      getD-set-other (freed r i k) (ownersAt + listed (freed r i k) i k) (listsAt + (i * cells + o)) unowned 0
-      (omega (arith, listed-kept k (omega arith) k, own k (omega arith) .low))
-      ∙ listed-kept k (omega arith) o
-
-  step : (k : ℕ) → k < m → freed r i (suc k) ≡ set (freed r i k) (ownersAt + listed r i k) unowned
-  unfolding freed
-  step k h = ap (λ (c : ℕ). set (freed r i k) (ownersAt + c) unowned) (listed-kept k (omega arith) k)
-
   -- what no turn changes is as it was
   turns : {A : Type 0} (f : List ℕ → A) (k : ℕ) → k ≤ m
       → ((t : List ℕ) (o : ℕ) → o < k → f (set t (ownersAt + listed r i o) unowned) ≡ f t) → f (freed r i k) ≡ f r
   unfolding freed
   turns f zero h e = refl
   turns f (suc k) h e =
-      ap f (step k (omega arith)) ∙ e (freed r i k) k (omega arith) ∙ turns f k (omega arith) (λ t o l. e t o (omega arith))
+      e (freed r i k) k (omega arith) ∙ turns f k (omega arith) (λ t o l. e t o (omega arith))
 
   owner-kept : (k : ℕ) → k ≤ m → (d : ℕ) → ((o : ℕ) → o < k → d ≡ listed r i o → ⊥) → owner (freed r i k) d ≡ owner r d
   owner-kept k h d w =
@@ -67,16 +55,16 @@ module _ (r : List ℕ) (i : ℕ) (lr : size ≤ length r) (li : i < holders) (g
 
   -- each turn frees one cell
   freed-one : (k : ℕ) → k < m → sum cells (freeAt (freed r i (suc k))) ≡ sum cells (freeAt (freed r i k)) + 1
+  unfolding freed
   freed-one k h =
       sum-grow (freeAt (freed r i k)) (freeAt (freed r i (suc k))) cells (listed r i k) 1 (own k h .low)
       (rw (
-        step k h,
         getD-set-same (freed r i k) (ownersAt + listed r i k) unowned 0 (omega (arith, freed-length r i k, own k h .low)),
         owner-kept k (omega arith) (listed r i k) (λ o l. apart k o h l),
         own k h .owned,
         ne-eqb i unowned (omega arith),
       ))
-      (λ d l ne. rw (step k h, getD-set-other (freed r i k) (ownersAt + listed r i k) (ownersAt + d) unowned 0 (λ z. ne (omega arith))))
+      (λ d l ne. rw (getD-set-other (freed r i k) (ownersAt + listed r i k) (ownersAt + d) unowned 0 (λ z. ne (omega arith))))
 
   freed-sum : (k : ℕ) → k ≤ m → sum cells (freeAt (freed r i k)) ≡ sum cells (freeAt r) + k
   unfolding freed

@@ -51,7 +51,7 @@ appended r i xs = cond (appends r i xs) (stored r i (held r i) (lowest r) xs) r
 -- nobody owns the first n cells of holder i's list
 unfoldable pub freed : List ℕ → ℕ → ℕ → List ℕ
 freed r i zero = r
-freed r i (suc k) = set (freed r i k) (ownersAt + listed (freed r i k) i k) unowned
+freed r i (suc k) = set (freed r i k) (ownersAt + listed r i k) unowned
 
 unfoldable pub released : List ℕ → ℕ → List ℕ
 released r i = cond (inside r i) (set (freed r i (held r i)) (heldAt + i) 0) r

@@ -9,6 +9,7 @@ ghost use Rattle.pool.specs.Calls.{freed, released};
 fn free_one(r: &mut [u8], i: usize, k: usize)
     requires { ⌜ (size ≤ length (now r)) × (i < holders) × (k < 256) ⌝ }
     ensures { λ _. ⌜ now (r .exit) ≡ set (now (r .entry)) (ownersAt + listed (now (r .entry)) i k) unowned ⌝ }
+    ensures { λ _. ⌜ listed (now (r .entry)) i k < 256 ⌝ }
 {
     let c = lent::wide(r[region::layout::LISTS + (i * region::layout::CELLS + k)]);
     r[region::layout::OWNERS + c] = region::layout::UNOWNED;

@@ -1,18 +1,20 @@
--- `pool::freeing::free_all`: the first k cells of the list are freed. Assumes nothing.
-use Prim.Native.Nat.{_-_, _≤_, _<_}
-use mathlib.Core.Path.{_≡_, refl, _∙_}
+-- `pool::freeing::free_all`: the first k cells of the list are freed, and the list stays. Assumes nothing.
+use Prim.Native.Nat.{_-_, _≤_, _<_, ℕ, _+_, _*_}
+use mathlib.Core.Path.{_≡_, refl, _∙_, ap, ap₂}
+use mathlib.Core.List.{List}
 use native.Mathlib.Numerals.{add-one}
 use native.Mathlib.Omega.{arith}
-use lib.ListN.{length, length-set}
+use lib.ListN.{length, length-set, set}
+use lib.Seq.{getD-set-other}
 use borrow.Author.Needs.{needs}
-use Rattle.region.specs.Layout.{held}
+use Rattle.region.specs.Layout.{held, cells, unowned, ownersAt, listsAt, listed}
 use Rattle.pool.specs.Calls.{freed}
 use Rattle.pool.proofs.freeing.free_all.Statement.{statement}
 use Rattle.pool.proofs.freeing.free_all.Tie as tie
 
 abbrev Inv-loop : tie.InvT-loop
 Inv-loop r₀ i n k₀ r k =
-    (k ≤ n) × (length r ≡ length r₀) × (n ≡ held r₀ i) × (n < 256) × (r ≡ freed r₀ i k)
+    (k ≤ n) × (length r ≡ length r₀) × (n ≡ held r₀ i) × (n < 256) × (r ≡ freed r₀ i k) × ((o : ℕ) → listed r i o ≡ listed r₀ i o)
 
 abbrev μ-loop : tie.MeasureT-loop
 μ-loop r₀ i n k₀ r k = n - k
@@ -28,7 +30,7 @@ wide-requires c κs = search needs
 
 loop-holds : tie.Need-loop-holds Inv-loop μ-loop
 unfolding freed
-loop-holds c = (omega arith, refl, c .wide .ensures .0, c .wide .ensures .1, refl)
+loop-holds c = (omega arith, refl, c .wide .ensures .0, c .wide .ensures .1, refl, λ o. refl)
 
 free-one-requires : tie.Need-free-one-requires Inv-loop μ-loop
 free-one-requires c κs = omega arith
@@ -42,8 +44,20 @@ loop-less c = omega arith
 loop-again : tie.Need-loop-again Inv-loop μ-loop
 unfolding freed
 loop-again c =
+    let a = c .before .before .before .before .before .before .before .before .before .args in
     let l = c .before .before .before .before .before .loop in
-    (omega arith, c .before .before .free-one .kept .0 ∙ l .inv .1, omega arith, omega arith, c .before .before .free-one .ensures ∙ rw (l .inv .4, add-one))
+    let e = c .before .before .free-one .ensures .0 in
+    let low : listed (l .r) (a .i) (l .k) < 256 = c .before .before .free-one .ensures .1 in (
+      omega arith,
+      c .before .before .free-one .kept .0 ∙ l .inv .1,
+      omega arith,
+      omega arith,
+      e ∙ rw add-one (ap₂ (λ (t : List ℕ) (c : ℕ). set t (ownersAt + c) unowned) (l .inv .4) (l .inv .5 (l .k))),
+      λ o.
+          ap (λ (t : List ℕ). listed t (a .i) o) e
+          ∙ getD-set-other (l .r) (ownersAt + listed (l .r) (a .i) (l .k)) (listsAt + (a .i * cells + o)) unowned 0 (omega arith)
+          ∙ l .inv .5 o,
+    )
 
 add-r : tie.Need-add-r Inv-loop μ-loop
 add-r c = omega arith

@@ -1,4 +1,5 @@
 -- `pool::freeing::free_one`: the owner of the cell that is listed. Assumes nothing.
+use native.Mathlib.Omega.{arith}
 use borrow.Author.Needs.{needs}
 use Rattle.pool.proofs.freeing.free_one.Statement.{statement}
 use Rattle.pool.proofs.freeing.free_one.Tie as tie
@@ -28,7 +29,7 @@ same-length : tie.Need-same-length
 same-length c = search needs
 
 returns : tie.Need-returns
-returns c = rw (c .wide .ensures .0)
+returns c = (rw (c .wide .ensures .0), omega (arith, c .wide .ensures .0, c .wide .ensures .1))
 
 pub free-one-spec : {M : Type 1} → statement M
 free-one-spec =
