@@ -40,6 +40,19 @@ pub and-right : (a b : Bool) → (a && b) ≡ true → b ≡ true
 and-right true b e = e
 and-right false b e = absurd (false≢true e)
 
+-- one part of a test is settled
+pub and-true : (a b : Bool) → a ≡ true → (a && b) ≡ b
+and-true a b e = rw e
+
+pub and-false : (a b : Bool) → b ≡ false → (a && b) ≡ false
+and-false true b e = e
+and-false false b e = refl
+
+-- where the first part holds the second is the same
+pub and-under : (a : Bool) {b c : Bool} → (a ≡ true → b ≡ c) → (a && b) ≡ (a && c)
+and-under true e = e refl
+and-under false e = refl
+
 -- and of one that did not
 pub or-left : (a b : Bool) → (a || b) ≡ false → a ≡ false
 or-left true b e = e

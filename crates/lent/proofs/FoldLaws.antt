@@ -15,6 +15,10 @@ module _ (f : ℕ → Bool) where
   unfolding all
   all-next n = rw (add-one n)
 
+  -- where a loop ends that counted up to n
+  pub all-end : (k n : ℕ) → k ≡ n → all k f ≡ true → all n f ≡ true
+  all-end k n e h = subst (λ (m : ℕ). all m f ≡ true) e h
+
   -- what holds of all holds of each
   pub all-at : (n k : ℕ) → all n f ≡ true → k < n → f k ≡ true
   unfolding all
@@ -46,6 +50,9 @@ module _ (f : ℕ → ℕ) where
   pub sum-next : (n : ℕ) → sum (n + 1) f ≡ sum n f + f n
   unfolding sum
   sum-next n = rw (add-one n)
+
+  pub sum-end : (k n total : ℕ) → k ≡ n → total ≡ sum k f → total ≡ sum n f
+  sum-end k n total e h = subst (λ (m : ℕ). total ≡ sum m f) e h
 
   pub sum-zero : (n : ℕ) → ((k : ℕ) → k < n → f k ≡ 0) → sum n f ≡ 0
   unfolding sum

@@ -14,24 +14,24 @@ use Rattle.lent.proofs.FoldLaws.{sum-zero, sum-grow, first-holds, first-least}
 use Rattle.shares.specs.Pool.{Pool, Fit, Sound, free}
 use Rattle.shares.proofs.OthersLaws.{sum-others}
 use Rattle.shares.proofs.GrantLaws.{taken, given-free}
-use Rattle.region.specs.Layout.{holders, cells, cellSize, unowned, size, held, owner, listed, piece, poolIn}
+use Rattle.region.specs.Layout.{holders, cells, cellSize, unowned, held, owner, listed, piece, poolIn}
 use Rattle.region.specs.Sound.{freeAt, Piece, Good}
-use Rattle.region.specs.Holding.{grants}
+use Rattle.region.specs.Holding.{ruleGrants}
 use Rattle.pool.specs.Calls.{lowest, stored}
 use Rattle.pool.specs.Contents.{having}
 use Rattle.pool.specs.View.{pieces, shown}
 use Rattle.region.proofs.SoundLaws.{held-low, total}
 use Rattle.pool.proofs.ViewLaws.{pieces-ext}
 use Rattle.pool.proofs.ShownLaws.{pieces-in, shown-having}
-use Rattle.pool.proofs.StoredLaws.{Stores, held-own, listed-own, len-own, place-own, owner-own, held-other, owner-other, place-other, len-other, listed-holder, listed-before, piece-own, piece-other, pool-stored}
+use Rattle.pool.proofs.StoredLaws.{Stores, length-stored, held-own, listed-own, len-own, place-own, owner-own, held-other, owner-other, place-other, len-other, listed-holder, listed-before, piece-own, piece-other, pool-stored}
 
 -- what the lowest free cell is the first of
 abbrev isFree : List ℕ → ℕ → Bool
 isFree r c = eqb (owner r c) unowned
 
-module _ (r : List ℕ) (i : ℕ) (g : Good r) (h : i < holders) (given : grants r i ≡ true) where
+module _ (r : List ℕ) (i : ℕ) (g : Good r) (h : i < holders) (given : ruleGrants r i ≡ true) where
   some-free : 0 < free (poolIn r) (held r)
-  unfolding grants
+  unfolding ruleGrants
   some-free = given-free (poolIn r) (held r) i h (g .holdings) given
 
   pub lowest-in : lowest r < cells
@@ -49,12 +49,12 @@ module _ (r : List ℕ) (i : ℕ) (g : Good r) (h : i < holders) (given : grants
   held-less : held r i < cells
   held-less = omega (arith, some-free, sum-others holders i (held r) h)
 
-  module _ (xs : List ℕ) (long : size ≤ length r) (short : length xs ≤ cellSize) where
+  module _ (xs : List ℕ) (short : length xs ≤ cellSize) where
     abbrev q : List ℕ
     q = stored r i (held r i) (lowest r) xs
 
     s : Stores r i (held r i) (lowest r) xs
-    s = record { long = long; holder = h; last = held-less; cell = lowest-in; short = short }
+    s = record { long = g .long; holder = h; last = held-less; cell = lowest-in; short = short }
 
     -- a cell that a list names is not the one that is taken, and stays as it was
     untaken : {j k d : ℕ} → j < holders → Piece r j k d → d ≡ lowest r → ⊥
@@ -100,7 +100,7 @@ module _ (r : List ℕ) (i : ℕ) (g : Good r) (h : i < holders) (given : grants
     -- ---- soundness
 
     holdings-kept : Sound (poolIn r) (held q)
-    unfolding grants
+    unfolding ruleGrants
     holdings-kept =
         taken (poolIn r) (g .fit) (held r) (held q) i h (held-other s) (g .holdings) given (omega (arith, held-own s))
 
@@ -139,6 +139,7 @@ module _ (r : List ℕ) (i : ℕ) (g : Good r) (h : i < holders) (given : grants
 
       pub stored-good : Good q
       stored-good = record {
+        long = omega (arith, g .long, length-stored r i (held r i) (lowest r) xs);
         fit = subst Fit (sym (pool-stored s)) (g .fit);
         holdings = subst (λ (K : Pool). Sound K (held q)) (sym (pool-stored s)) holdings-kept;
         pieces = λ j k l m. eq-or-ne j i (λ e. rw e (pieces-own k (rw e at m))) (λ d. pieces-other j k l d m);

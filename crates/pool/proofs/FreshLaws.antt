@@ -131,6 +131,7 @@ module _ (sh ce : List ℕ) (ls : length sh ≡ holders) (lc : length ce ≡ hol
 
     pub fresh-good : fit (poolOf sh ce) ≡ true → Good q
     fresh-good ok = record {
+      long = omega (arith, lr, length-splice r 0 (fresh sh ce));
       fit = F;
       holdings = fresh-sound (poolIn q) (held q) F held-fresh;
       pieces = λ j k h l. absurd (omega (arith, held-fresh j h));

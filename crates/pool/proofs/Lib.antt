@@ -11,6 +11,6 @@ pub mod ResponseLaws
 pub mod ShowsAppend
 pub mod ShowsRelease
 pub mod Shows
-pub mod FillLaws
+pub mod ElevenLaws
 pub mod Vectors
 pub mod Settled

@@ -13,7 +13,7 @@ use Rattle.lent.proofs.PlaceLaws.{window-set}
 use Rattle.lent.proofs.FoldLaws.{sum-ext, sum-grow}
 use Rattle.shares.specs.Pool.{Pool, Fit, Sound}
 use Rattle.shares.proofs.GrantLaws.{kept}
-use Rattle.region.specs.Layout.{holders, cells, cellSize, unowned, heldAt, ownersAt, placesAt, lengthsAt, listsAt, cellsAt, size, held, owner, place, len, listed, piece, poolIn}
+use Rattle.region.specs.Layout.{holders, cells, cellSize, unowned, heldAt, ownersAt, placesAt, lengthsAt, listsAt, cellsAt, held, owner, place, len, listed, piece, poolIn}
 use Rattle.region.specs.Sound.{freeAt, Piece, Good}
 use Rattle.region.proofs.SoundLaws.{total}
 use Rattle.pool.specs.Calls.{freed}
@@ -25,12 +25,16 @@ use Rattle.region.proofs.LimitLaws.{pool-set}
 
 -- ---- the owners freed
 
-pub freed-length : (r : List ℕ) (i k : ℕ) → length (freed r i k) ≡ length r
+freed-length : (r : List ℕ) (i k : ℕ) → length (freed r i k) ≡ length r
 unfolding freed
 freed-length r i zero = refl
 freed-length r i (suc k) = simp length-set (freed-length r i k)
 
-module _ (r : List ℕ) (i : ℕ) (lr : size ≤ length r) (li : i < holders) (g : Good r) where
+-- and nothing is held
+pub length-emptied : (r : List ℕ) (i : ℕ) → length (set (freed r i (held r i)) (heldAt + i) 0) ≡ length r
+length-emptied r i = simp length-set (freed-length r i (held r i))
+
+module _ (r : List ℕ) (i : ℕ) (li : i < holders) (g : Good r) where
   abbrev m : ℕ
   m = held r i
 
@@ -59,7 +63,7 @@ module _ (r : List ℕ) (i : ℕ) (lr : size ≤ length r) (li : i < holders) (g
   freed-one k h =
       sum-grow (freeAt (freed r i k)) (freeAt (freed r i (suc k))) cells (listed r i k) 1 (own k h .low)
       (rw (
-        getD-set-same (freed r i k) (ownersAt + listed r i k) unowned 0 (omega (arith, freed-length r i k, own k h .low)),
+        getD-set-same (freed r i k) (ownersAt + listed r i k) unowned 0 (omega (arith, g .long, freed-length r i k, own k h .low)),
         owner-kept k (omega arith) (listed r i k) (λ o l. apart k o h l),
         own k h .owned,
         ne-eqb i unowned (omega arith),
@@ -91,7 +95,7 @@ module _ (r : List ℕ) (i : ℕ) (lr : size ≤ length r) (li : i < holders) (g
       ∙ turns poolIn m (omega arith) (λ t o l. pool-set t (ownersAt + listed r i o) unowned (omega arith))
 
   held-none : held q i ≡ 0
-  held-none = getD-set-same f (heldAt + i) 0 0 (omega (arith, freed-length r i m))
+  held-none = getD-set-same f (heldAt + i) 0 0 (omega (arith, g .long, freed-length r i m))
 
   held-same : (j : ℕ) → j < holders → (j ≡ i → ⊥) → held q j ≡ held r j
   held-same j h d = same (heldAt + j) (λ x l z. omega arith) (λ z. d (omega arith))
@@ -151,6 +155,7 @@ module _ (r : List ℕ) (i : ℕ) (lr : size ≤ length r) (li : i < holders) (g
 
   pub released-good : Good q
   released-good = record {
+    long = omega (arith, g .long, length-emptied r i);
     fit = subst Fit (sym pool-released) (g .fit);
     holdings = subst (λ (K : Pool). Sound K (held q)) (sym pool-released)
         (kept (poolIn r) (g .fit) (held r) (held q) i li held-same (g .holdings) (omega (arith, held-none)));

@@ -11,7 +11,7 @@ use borrow.Author.Tests.{lt-ltb, le-ltb, le-leb, lt-leb, leb-true}
 use Rattle.lent.specs.Place.{window, splice}
 use Rattle.lent.proofs.Cases.{cond-case, le-or-lt, and-left, and-right}
 use Rattle.lent.proofs.PlaceLaws.{length-window, splice-append}
-use Rattle.region.specs.Layout.{holders, cells, cellSize, cellsAt, size, held, len, listed, piece}
+use Rattle.region.specs.Layout.{holders, cells, cellSize, cellsAt, held, len, listed, piece}
 use Rattle.region.specs.Sound.{pieceSize, Piece, Good}
 use Rattle.pool.specs.Calls.{bytesIn, joined}
 use Rattle.pool.specs.Contents.{join, sized}
@@ -95,12 +95,12 @@ joined-join r i (suc n) g li h =
     ap₂ _++_ (joined-join r i n g li (omega arith)) (bytes-piece r (listed r i n) (w .low) (w .short))
     ∙ sym (join-snoc (pieces r i n) (piece r (listed r i n)))
 
-pub pieces-sized : (r : List ℕ) (i n : ℕ) → Good r → size ≤ length r → i < holders → n ≤ held r i → sized (pieces r i n) ≡ true
+pub pieces-sized : (r : List ℕ) (i n : ℕ) → Good r → i < holders → n ≤ held r i → sized (pieces r i n) ≡ true
 unfolding sized pieces
-pieces-sized r i zero g lr li h = refl
-pieces-sized r i (suc n) g lr li h =
+pieces-sized r i zero g li h = refl
+pieces-sized r i (suc n) g li h =
     let c : ℕ = listed r i n in
     let w : Piece r i n c = g .pieces i n li (omega arith) in
-    let e : length (piece r c) ≡ len r c = length-window r (cellsAt + c * cellSize) (len r c) (omega (arith, w .low, w .short)) in
-    sized-snoc (pieces r i n) (piece r c) (pieces-sized r i n g lr li (omega arith))
+    let e : length (piece r c) ≡ len r c = length-window r (cellsAt + c * cellSize) (len r c) (omega (arith, g .long, w .low, w .short)) in
+    sized-snoc (pieces r i n) (piece r c) (pieces-sized r i n g li (omega arith))
     (rw (e, lt-ltb 0 (len r c) (w .some), le-leb (len r c) cellSize (w .short)))

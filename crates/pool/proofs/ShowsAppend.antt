@@ -2,26 +2,24 @@
 use mathlib.Core.Path.{_≡_, refl, sym, ap, _∙_}
 use mathlib.Core.Bool.{Bool, true, false, cond, _&&_}
 use mathlib.Core.List.{List, [], _∷_, _++_}
-use Prim.Native.Nat.{ℕ, _≤_}
-use native.Mathlib.Omega.{arith}
+use Prim.Native.Nat.{ℕ}
 use lib.Dec.{ltb}
 use lib.ListN.{length}
 use borrow.Author.Tests.{lt-ltb}
 use Rattle.lent.proofs.Cases.{cond-case}
-use Rattle.region.specs.Layout.{cells, size, held}
+use Rattle.region.specs.Layout.{cells, held}
 use Rattle.region.specs.Sound.{pieceSize, Good, sound}
 use Rattle.region.specs.Holding.{granted}
 use Rattle.pool.specs.Calls.{lowest, stored, takes, appends, appended}
 use Rattle.pool.specs.Contents.{having, takesPiece, appendTo}
 use Rattle.pool.specs.View.{shown}
-use Rattle.region.proofs.SoundLaws.{parts-sound}
+use Rattle.region.proofs.SoundLaws.{good-sound}
 use Rattle.region.proofs.HolderLaws.{granted-facts}
 use Rattle.pool.proofs.CallLaws.{appends-facts}
-use Rattle.pool.proofs.StoredLaws.{length-stored}
 use Rattle.pool.proofs.AppendLaws.{lowest-in, stored-shows, stored-good}
 use Rattle.pool.proofs.HoldingLaws.{granted-shown}
 
-module _ (r : List ℕ) (long : size ≤ length r) (g : Good r) (i : ℕ) where
+module _ (r : List ℕ) (g : Good r) (i : ℕ) where
   -- where a cell is granted there is one
   takes-granted : takes r i ≡ granted r i
   unfolding takes
@@ -34,7 +32,7 @@ module _ (r : List ℕ) (long : size ≤ length r) (g : Good r) (i : ℕ) where
   module _ (xs : List ℕ) where
     pub append-says : appends r i xs ≡ takesPiece (shown r) i xs
     unfolding appends takesPiece
-    append-says = ap (λ b. pieceSize (length xs) && b) (takes-granted ∙ granted-shown r long i)
+    append-says = ap (λ b. pieceSize (length xs) && b) (takes-granted ∙ granted-shown r (g .long) i)
 
     abbrev q : List ℕ
     q = stored r i (held r i) (lowest r) xs
@@ -45,7 +43,7 @@ module _ (r : List ℕ) (long : size ≤ length r) (g : Good r) (i : ℕ) where
       where
         go : (b : Bool) → appends r i xs ≡ b
             → shown (cond b q r) ≡ cond b (having (shown r) i (shown r .pieces i ++ (xs ∷ []))) (shown r)
-        go true e = let a = appends-facts r i xs e in stored-shows r i g (a .gets .holder) (a .gets .given) xs long (a .short)
+        go true e = let a = appends-facts r i xs e in stored-shows r i g (a .gets .holder) (a .gets .given) xs (a .short)
         go false e = refl
 
     pub append-sound : sound (appended r i xs) ≡ true
@@ -54,6 +52,6 @@ module _ (r : List ℕ) (long : size ≤ length r) (g : Good r) (i : ℕ) where
         cond-case (λ t. sound t ≡ true) (appends r i xs)
         (λ e.
         let a = appends-facts r i xs e in
-        parts-sound q (omega (arith, length-stored r i (held r i) (lowest r) xs))
-        (stored-good r i g (a .gets .holder) (a .gets .given) xs long (a .short) (a .some)))
-        (λ e. parts-sound r long g)
+        good-sound q
+        (stored-good r i g (a .gets .holder) (a .gets .given) xs (a .short) (a .some)))
+        (λ e. good-sound r g)

@@ -1,14 +1,15 @@
 -- What is promised of a region and of what it shows. Layers above cite this record, and never the layout.
-use Prim.Native.Nat.{ℕ}
+use Prim.Native.Nat.{ℕ, _≤_}
 use mathlib.Core.Path.{_≡_}
 use mathlib.Core.Bool.{true, false}
 use mathlib.Core.List.{List}
 use lib.ListN.{length}
-use Rattle.shares.specs.Pool.{Fit, Sound, free}
-use Rattle.region.specs.Layout.{holders, poolOf}
+use Rattle.shares.specs.Pool.{Fit, Sound, free, fit}
+use Rattle.lent.specs.Place.{splice}
+use Rattle.region.specs.Layout.{holders, cells, size, poolOf}
 use Rattle.region.specs.Sound.{sound}
 use Rattle.region.specs.Holding.{heldBy, freeCells, granted}
-use Rattle.pool.specs.Calls.{laysOut, laidOut, appends, appended, released, response}
+use Rattle.pool.specs.Calls.{laysOut, laidOut, appends, appended, released, response, copied}
 use Rattle.pool.specs.Contents.{empty, holding, grantedIn, takesPiece, appendTo, releaseOf, join, sized}
 use Rattle.pool.specs.View.{shown}
 
@@ -20,6 +21,8 @@ pub record Fresh (r shares ceilings : List ℕ) : Type 0 where
 -- of a sound region:
 pub record Shows (r : List ℕ) : Type 0 where
   -- shares and ceilings pass 2, holdings are sound, pieces have 1 to 254 bytes
+  pub many : shown r .limits .holders ≡ holders
+  pub all : shown r .limits .cells ≡ cells
   pub fit : Fit (shown r .limits)
   pub holdings : Sound (shown r .limits) (holding (shown r))
   pub sizes : (i : ℕ) → sized (shown r .pieces i) ≡ true
@@ -36,10 +39,14 @@ pub record Shows (r : List ℕ) : Type 0 where
   pub release-sound : (i : ℕ) → sound (released r i) ≡ true
   -- the response is the pieces joined
   pub response : (i : ℕ) → response r i ≡ join (shown r .pieces i)
+  -- and copy out writes them at the front
+  pub copy-shows : (i : ℕ) (out : List ℕ) → copied r i out ≡ splice out 0 (join (shown r .pieces i))
 
 pub record Promised : Type 0 where
   pub fresh : (r shares ceilings : List ℕ) → length shares ≡ holders → length ceilings ≡ holders
       → laysOut r shares ceilings ≡ true → Fresh r shares ceilings
+  -- where there is a region, it is laid out exactly if the limits pass
+  pub lays : (r shares ceilings : List ℕ) → size ≤ length r → laysOut r shares ceilings ≡ fit (poolOf shares ceilings)
   pub shows : (r : List ℕ) → sound r ≡ true → Shows r
   -- of any bytes: what is denied changes nothing, and no call changes the length
   pub denied : (r : List ℕ) (i : ℕ) (xs : List ℕ) → appends r i xs ≡ false → appended r i xs ≡ r

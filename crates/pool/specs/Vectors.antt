@@ -38,10 +38,11 @@ pool11 = poolOf shares11 ceilings11
 pub record Filled (r : List ℕ) (xss : List (List ℕ)) : Type 0 where
   -- it gets its 26th cell and none at the 27th
   pub told : appendAll r 0 xss ≡ replicate 26 true ++ (false ∷ [])
-  -- at the 26th 71 are free and 70 lacking, at the 27th 70 are free
+  -- at the 26th 71 are free and 70 lacking, at the 27th 70 and 70
   pub free-26 : freeCells (after r 0 (take 25 xss)) ≡ 71
   pub lacking-26 : othersLack pool11 (heldBy (after r 0 (take 25 xss))) 0 ≡ 70
   pub free-27 : freeCells (after r 0 (take 26 xss)) ≡ 70
+  pub lacking-27 : othersLack pool11 (heldBy (after r 0 (take 26 xss))) 0 ≡ 70
   pub held-27 : heldBy (after r 0 (take 26 xss)) 0 ≡ 26
 
 pub record Eleven : Type 0 where

@@ -18,7 +18,7 @@ fn bytes_of(r: &[u8], c: usize) -> &[u8]
     if region::layout::CELL < n {
         return lent::part(r, 0, 0);
     }
-    lent::part(r, region::layout::CONTENTS + c * region::layout::CELL, n)
+    lent::part(r, region::layout::CELLS_AT + c * region::layout::CELL, n)
 }
 
 // Holder i's piece k.

@@ -27,7 +27,7 @@ fn store(r: &mut [u8], i: usize, c: usize, xs: &[u8])
     ensures { λ _. ⌜ now (r .exit) ≡ stored (now (r .entry)) i (held (now (r .entry)) i) c (now (xs .entry)) ⌝ }
 {
     let n = r[region::layout::HELD + i];
-    lent::put(r, region::layout::CONTENTS + c * region::layout::CELL, xs);
+    lent::put(r, region::layout::CELLS_AT + c * region::layout::CELL, xs);
     r[region::layout::OWNERS + c] = i as u8;
     r[region::layout::PLACES + c] = n;
     r[region::layout::LENGTHS + c] = xs.len() as u8;

@@ -10,7 +10,7 @@ use borrow.Author.Tests.{leb-true, le-leb, ltb-true}
 use Rattle.lent.proofs.Cases.{and-left, and-right}
 use Rattle.shares.proofs.GrantLaws.{Why, below, spare, why}
 use Rattle.region.specs.Layout.{holders, sharesAt, ceilingsAt, size, held, poolIn}
-use Rattle.region.specs.Holding.{inside, grants, granted}
+use Rattle.region.specs.Holding.{inside, ruleGrants, granted}
 use Rattle.region.proofs.LimitLaws.{share-at, ceiling-at}
 
 module _ (r : List ℕ) (i : ℕ) where
@@ -27,17 +27,17 @@ module _ (r : List ℕ) (i : ℕ) where
   pub record Gets : Type 0 where
     pub long : size ≤ length r
     pub holder : i < holders
-    pub given : grants r i ≡ true
+    pub given : ruleGrants r i ≡ true
 
   pub granted-facts : granted r i ≡ true → Gets
   unfolding granted
   granted-facts e =
       let f = inside-facts (and-left _ _ e) in
-      record { long = f .0; holder = f .1; given = and-right (inside r i) (grants r i) e }
+      record { long = f .0; holder = f .1; given = and-right (inside r i) (ruleGrants r i) e }
 
   -- and it holds fewer than a byte can say
-  pub granted-low : i < holders → getD r (sharesAt + i) 0 < 256 → getD r (ceilingsAt + i) 0 < 256 → grants r i ≡ true → held r i < 255
-  unfolding grants
+  pub granted-low : i < holders → getD r (sharesAt + i) 0 < 256 → getD r (ceilingsAt + i) 0 < 256 → ruleGrants r i ≡ true → held r i < 255
+  unfolding ruleGrants
   granted-low h s c e = go (why (poolIn r) (held r) i e)
     where
       go : Why (poolIn r) (held r) i → held r i < 255

@@ -1,6 +1,6 @@
 -- The test of a sound region is its facts. Assumes nothing.
 use Prim.Native.Nat.{ℕ, _+_, _≤_, _<_}
-use mathlib.Core.Path.{_≡_}
+use mathlib.Core.Path.{_≡_, sym, ap, _∙_}
 use mathlib.Core.Bool.{true}
 use mathlib.Core.List.{List}
 use native.Mathlib.Omega.{arith}
@@ -54,35 +54,34 @@ module _ (r : List ℕ) where
 
   -- ---- the region
 
-  sound-good : soundIn r ≡ true → Good r
-  unfolding soundIn counted
+  -- what passes the test follows the rules
+  pub sound-good : sound r ≡ true → Good r
+  unfolding sound soundIn counted
   sound-good e =
-      let e1 = and-right (pool.fit (poolIn r)) _ e in
-      let e2 = and-right (pool.sound (poolIn r) (held r)) _ e1 in
+      let e1 = and-right (leb size (length r)) _ e in
+      let e2 = and-right (pool.fit (poolIn r)) _ e1 in
+      let e3 = and-right (pool.sound (poolIn r) (held r)) _ e2 in
       record {
-        fit = fit-facts (poolIn r) (and-left _ _ e);
-        holdings = sound-facts (poolIn r) (held r) (and-left _ _ e1);
-        pieces = lists-pieces (and-right (counted r) _ e2);
-        counted = eqb-true (sum cells (freeAt r)) (pool.free (poolIn r) (held r)) (and-left _ _ e2);
+        long = leb-true size (length r) (and-left _ _ e);
+        fit = fit-facts (poolIn r) (and-left _ _ e1);
+        holdings = sound-facts (poolIn r) (held r) (and-left _ _ e2);
+        counted = eqb-true (sum cells (freeAt r)) (pool.free (poolIn r) (held r)) (and-left _ _ e3);
+        pieces = lists-pieces (and-right (counted r) _ e3);
       }
 
-  good-sound : Good r → soundIn r ≡ true
-  unfolding soundIn counted
+  -- what follows the rules passes the test
+  pub good-sound : Good r → sound r ≡ true
+  unfolding sound soundIn counted
   good-sound g =
       rw (
+        le-leb size (length r) (g .long),
         facts-fit (poolIn r) (g .fit),
         facts-sound (poolIn r) (held r) (g .holdings),
         eq-eqb (sum cells (freeAt r)) (pool.free (poolIn r) (held r)) (g .counted),
         pieces-lists (g .pieces),
       )
 
-  pub sound-parts : sound r ≡ true → (size ≤ length r) × Good r
-  unfolding sound
-  sound-parts e = (leb-true size (length r) (and-left _ _ e), sound-good (and-right (leb size (length r)) _ e))
-
-  pub parts-sound : size ≤ length r → Good r → sound r ≡ true
-  unfolding sound
-  parts-sound h g = rw (le-leb size (length r) h, good-sound g)
+  -- ---- what follows from the rules
 
   -- no holder has more than all cells
   pub held-low : Good r → (i : ℕ) → i < holders → held r i ≤ cells
@@ -91,3 +90,10 @@ module _ (r : List ℕ) where
   -- the cells that nobody owns and those that are held make up all cells
   pub total : Good r → sum cells (freeAt r) + sum holders (held r) ≡ cells
   total g = omega (arith, g .counted, g .holdings .within)
+
+  -- no cell is listed twice
+  pub listed-once : Good r → (i j k o : ℕ) → i < holders → j < holders → k < held r i → o < held r j → listed r i k ≡ listed r j o → (i ≡ j) × (k ≡ o)
+  listed-once g i j k o hi hj hk ho e = (
+    sym (g .pieces i k hi hk .owned) ∙ ap (owner r) e ∙ g .pieces j o hj ho .owned,
+    sym (g .pieces i k hi hk .placed) ∙ ap (place r) e ∙ g .pieces j o hj ho .placed,
+  )

@@ -21,8 +21,8 @@ unfoldable pub freeCells : List ℕ → ℕ
 freeCells r = cond (leb size (length r)) (pool.free (poolIn r) (held r)) 0
 
 -- what the rule says to the numbers that stand in the region
-unfoldable pub grants : List ℕ → ℕ → Bool
-grants r i = pool.granted (poolIn r) (held r) i
+unfoldable pub ruleGrants : List ℕ → ℕ → Bool
+ruleGrants r i = pool.granted (poolIn r) (held r) i
 
 unfoldable pub granted : List ℕ → ℕ → Bool
-granted r i = inside r i && grants r i
+granted r i = inside r i && ruleGrants r i

@@ -35,10 +35,11 @@ listWell r i = all (held r i) (listedWell r i)
 unfoldable pub counted : List ℕ → Bool
 counted r = eqb (sum cells (freeAt r)) (pool.free (poolIn r) (held r))
 
+-- the rules of a region that is there
 unfoldable pub soundIn : List ℕ → Bool
 soundIn r = pool.fit (poolIn r) && (pool.sound (poolIn r) (held r) && (counted r && all holders (listWell r)))
 
--- the region is there, and sound
+-- the region is there, and follows them
 unfoldable pub sound : List ℕ → Bool
 sound r = leb size (length r) && soundIn r
 
@@ -52,9 +53,11 @@ pub record Piece (r : List ℕ) (i k c : ℕ) : Type 0 where
   pub short : len r c ≤ cellSize
 
 pub record Good (r : List ℕ) : Type 0 where
+  -- the region is there
+  pub long : size ≤ length r
   -- shares and ceilings pass 2
   pub fit : pool.Fit (poolIn r)
-  -- no holder over its ceiling, and free cells for all that is lacking
+  -- no holder over its ceiling, no more held than there is, and free cells for all that is lacking
   pub holdings : pool.Sound (poolIn r) (held r)
   -- each holder's list names its pieces, in order
   pub pieces : (i k : ℕ) → i < holders → k < held r i → Piece r i k (listed r i k)

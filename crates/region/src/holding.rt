@@ -1,13 +1,11 @@
 // What holders hold and lack, what is free, and who gets a cell: on numbers, before any cell is looked at.
 ghost use mathlib.Core.Path.{_≡_};
-ghost use mathlib.Core.Bool.{cond};
-ghost use Prim.Native.Nat.{_-_, _≤_, _<_};
-ghost use lib.Dec.{eqb};
-ghost use lib.ListN.{length, getD};
+ghost use Prim.Native.Nat.{_≤_, _<_};
+ghost use lib.ListN.{length};
 ghost use Rattle.lent.specs.Fold.{sum};
 ghost use Rattle.shares.specs.Pool as pool;
 ghost use Rattle.region.specs.Layout as layout;
-ghost use Rattle.region.specs.Holding.{heldBy, freeCells, grants};
+ghost use Rattle.region.specs.Holding.{heldBy, freeCells, ruleGrants};
 ghost use Rattle.region.specs.Holding as holding;
 
 // All that is held.
@@ -62,9 +60,9 @@ fn others_lack(r: &[u8], i: usize) -> u16
 }
 
 // Whether the rule grants holder i a cell.
-pub(crate) fn grants_to(r: &[u8], i: usize) -> bool
+pub(crate) fn rule_grants(r: &[u8], i: usize) -> bool
     requires { ⌜ (layout.size ≤ length (now r)) × (i < layout.holders) ⌝ }
-    ensures { λ b. ⌜ b ≡ grants (now (r .entry)) i ⌝ }
+    ensures { λ b. ⌜ b ≡ ruleGrants (now (r .entry)) i ⌝ }
 {
     let held = r[super::layout::HELD + i];
     let share = r[super::layout::SHARES + i];
@@ -97,7 +95,7 @@ pub fn granted(r: &[u8], i: usize) -> bool
     ensures { λ b. ⌜ b ≡ holding.granted (now (r .entry)) i ⌝ }
 {
     if super::layout::is_holder(r, i) {
-        return grants_to(r, i);
+        return rule_grants(r, i);
     }
     false
 }

@@ -25,9 +25,9 @@ pub const LENGTHS: usize = PLACES + CELLS;
 
 pub const LISTS: usize = LENGTHS + CELLS;
 
-pub const CONTENTS: usize = LISTS + HOLDERS * CELLS;
+pub const CELLS_AT: usize = LISTS + HOLDERS * CELLS;
 // bytes in the region
-pub const SIZE: usize = CONTENTS + CELLS * CELL;
+pub const SIZE: usize = CELLS_AT + CELLS * CELL;
 
 // Whether there is a region and i is one of its holders.
 pub fn is_holder(r: &[u8], i: usize) -> bool

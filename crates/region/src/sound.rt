@@ -80,7 +80,7 @@ fn are_lists(r: &[u8]) -> bool
     true
 }
 
-// Whether no holder is over its ceiling, and the free cells are at least what all holders lack.
+// Whether no holder is over its ceiling, no more is held than there is, and the free cells are at least what all holders lack.
 fn are_holdings(r: &[u8]) -> bool
     requires { ⌜ size ≤ length (now r) ⌝ }
     ensures { λ b. ⌜ b ≡ pool.sound (poolIn (now (r .entry))) (held (now (r .entry))) ⌝ }

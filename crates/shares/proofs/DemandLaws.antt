@@ -1,24 +1,17 @@
 -- Demand 3 holds of every rack whose pool is sound, so of a fresh one. Assumes nothing.
 use Prim.Native.Nat.{ℕ, _<_}
 use mathlib.Core.Path.{_≡_, refl, sym, _∙_}
-use mathlib.Core.Bool.{Bool, true, false, _&&_}
+use mathlib.Core.Bool.{true}
 use native.Mathlib.Omega.{arith}
 use lib.Dec.{ltb}
 use borrow.Author.Tests.{ltb-true}
-use Rattle.lent.proofs.Cases.{and-left, and-right}
+use Rattle.lent.proofs.Cases.{and-left, and-right, and-true, and-false}
 use Rattle.shares.specs.Pool.{Pool, Fit, Sound, granted}
 use Rattle.shares.specs.Rack.{Protocol, Lawful, Rack, holds, asked, gets, run}
 use Rattle.shares.specs.Demand.{Reached, Demand3}
 use Rattle.shares.proofs.GrantLaws.{below-share, between, at-ceiling, given-free, fresh-sound}
 use Rattle.shares.proofs.RunLaws.{sound-run}
 use Rattle.shares.proofs.StrikeLaws.{striking, still-modest}
-
-and-true : (a b : Bool) → a ≡ true → a && b ≡ b
-and-true a b e = rw e
-
-and-false : (a b : Bool) → b ≡ false → a && b ≡ false
-and-false true b e = e
-and-false false b e = refl
 
 module _ (K : Pool) (P : Protocol) (F : Fit K) where
   here : (r : Rack P) → Sound K (holds P r) → Reached K P r

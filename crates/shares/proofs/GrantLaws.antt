@@ -60,6 +60,20 @@ granted-ext K h k i l e =
       others-ext (K .holders) i (lack K h) (lack K k) (λ j m d. ap (λ x. K .share j - x) (e j m)),
     )
 
+-- so does soundness
+pub sound-ext : (K : Pool) (h k : ℕ → ℕ) → ((j : ℕ) → j < K .holders → h j ≡ k j) → Sound K h → Sound K k
+sound-ext K h k e S = record {
+  under = λ j l. omega (arith, e j l, S .under j l);
+  within = omega (arith, held, S .within);
+  enough = omega (arith, held, lacks, S .enough);
+}
+  where
+    held : sum (K .holders) h ≡ sum (K .holders) k
+    held = sum-ext h k (K .holders) e
+
+    lacks : sum (K .holders) (lack K h) ≡ sum (K .holders) (lack K k)
+    lacks = sum-ext (lack K h) (lack K k) (K .holders) (λ j l. ap (λ x. K .share j - x) (e j l))
+
 -- a pool in which nothing is held is sound
 pub fresh-sound : (K : Pool) (h : ℕ → ℕ) → Fit K → ((j : ℕ) → j < K .holders → h j ≡ 0) → Sound K h
 fresh-sound K h F z = record {

@@ -1,11 +1,11 @@
 -- What open asks, and what a sound pool is: each test is its facts. Assumes nothing.
 use Prim.Native.Nat.{ℕ, _<_}
 use mathlib.Core.Path.{_≡_}
-use mathlib.Core.Bool.{Bool, true, _&&_}
+use mathlib.Core.Bool.{Bool, true, false, _&&_}
 use lib.Dec.{leb}
-use borrow.Author.Tests.{leb-true, le-leb}
+use borrow.Author.Tests.{leb-true, le-leb, lt-leb}
 use Rattle.lent.specs.Fold.{all, sum}
-use Rattle.lent.proofs.Cases.{and-left, and-right}
+use Rattle.lent.proofs.Cases.{and-left, and-right, and-false}
 use Rattle.lent.proofs.FoldLaws.{all-at, all-of}
 use Rattle.shares.specs.Pool.{Pool, limit, fit, Fit, free, lack, sound, Sound}
 
@@ -29,6 +29,11 @@ module _ (K : Pool) where
         all-of (limit K) (K .holders) (λ i h. rw (le-leb (K .share i) (K .ceiling i) (F .ordered i h), le-leb (K .ceiling i) (K .cells) (F .low i h))),
         le-leb (sum (K .holders) (K .share)) (K .cells) (F .shared),
       )
+
+  -- shares that add to more than the cells are refused
+  pub beyond-fit : K .cells < sum (K .holders) (K .share) → fit K ≡ false
+  unfolding fit
+  beyond-fit l = and-false (all (K .holders) (limit K)) _ (lt-leb (sum (K .holders) (K .share)) (K .cells) l)
 
 module _ (K : Pool) (h : ℕ → ℕ) where
   abbrev under : ℕ → Bool

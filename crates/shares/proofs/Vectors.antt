@@ -6,15 +6,16 @@ use native.Mathlib.Omega.{arith}
 use Rattle.lent.specs.Fold.{all, sum}
 use Rattle.shares.specs.Pool.{fit, limit, given, granted}
 use Rattle.shares.specs.Rack.{Lawful, after, answerTo, run, answers}
+use Rattle.shares.proofs.TestLaws.{beyond-fit}
 use Rattle.shares.specs.Vectors.{Asker, busy, ended, askerHeld, askerNext, asker, Eleven, Twelve}
 
 pub eleven : Eleven
 unfolding answers answerTo run after granted given sum
-eleven = record { told = refl; free-26 = refl; lacking-26 = refl; free-27 = refl }
+eleven = record { told = refl; free-26 = refl; lacking-26 = refl; free-27 = refl; lacking-27 = refl }
 
 pub twelve : Twelve
 unfolding fit limit all sum
-twelve = record { adds-96 = refl; opens = refl; adds-97 = refl; refused = refl }
+twelve = record { adds-96 = refl; opens = refl; adds-97 = refl; refused = refl; beyond = beyond-fit }
 
 -- the asking protocol is lawful, so that demand 3 speaks of it
 pub asker-lawful : Lawful asker

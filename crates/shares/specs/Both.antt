@@ -1,45 +1,61 @@
--- Two protocols side by side in one rack: each holder runs the one or the other. A call made for the one on a holder that
--- runs the other is refused and changes nothing.
+-- Two protocols side by side in one rack. A holder is in a state of the one or of the other; at each call it is settled
+-- which of them answers, in which state and to which input. So a holder may keep the one that it starts with, or change,
+-- as at an attach that goes by the card; and a call that neither of them takes is answered without either.
 use Prim.Native.Nat.{ℕ}
 use mathlib.Core.Logic.{_⊎_, inl, inr}
 use mathlib.Core.Bool.{Bool, false}
 use Rattle.shares.specs.Rack.{Protocol}
 
-module _ (P Q : Protocol) where
-  abbrev pub bothHeld : P .State ⊎ Q .State → ℕ
-  bothHeld (inl s) = P .held s
-  bothHeld (inr s) = Q .held s
+-- who answers a call
+pub data Turn (P Q : Protocol) (A : Type 0) : Type 0 where
+  first : P .State → P .Input → Turn P Q A
+  second : Q .State → Q .Input → Turn P Q A
+  neither : P .State ⊎ Q .State → A → Turn P Q A
 
-  abbrev pub bothAsks : ℕ → P .State ⊎ Q .State → P .Input ⊎ Q .Input → Bool
-  bothAsks i (inl s) (inl x) = P .asks i s x
-  bothAsks i (inl s) (inr x) = false
-  bothAsks i (inr s) (inl x) = false
-  bothAsks i (inr s) (inr x) = Q .asks i s x
+-- inputs and answers of the rack, and whose turn it is at each call
+pub record Sides (P Q : Protocol) : Type 1 where
+  pub Input : Type 0
+  pub Answer : Type 0
+  pub said-first : P .Answer → Answer
+  pub said-second : Q .Answer → Answer
+  pub refused : Input → Answer
+  pub turn : ℕ → P .State ⊎ Q .State → Input → Turn P Q Answer
 
-  abbrev pub bothNext : ℕ → P .State ⊎ Q .State → Bool → P .Input ⊎ Q .Input → P .State ⊎ Q .State
-  bothNext i (inl s) g (inl x) = inl (P .next i s g x)
-  bothNext i (inl s) g (inr x) = inl s
-  bothNext i (inr s) g (inl x) = inr s
-  bothNext i (inr s) g (inr x) = inr (Q .next i s g x)
+-- cells held in a state of the one or of the other
+abbrev pub heldBoth : (P Q : Protocol) → P .State ⊎ Q .State → ℕ
+heldBoth P Q (inl s) = P .held s
+heldBoth P Q (inr s) = Q .held s
 
-  abbrev pub bothRefused : P .Input ⊎ Q .Input → P .Answer ⊎ Q .Answer
-  bothRefused (inl x) = inl (P .refused x)
-  bothRefused (inr x) = inr (Q .refused x)
+module _ {P Q : Protocol} where
+  -- the cells that the answering state starts with
+  abbrev pub startHeld : {A : Type 0} → Turn P Q A → ℕ
+  startHeld (first s x) = P .held s
+  startHeld (second s x) = Q .held s
+  startHeld (neither s a) = heldBoth P Q s
 
-  abbrev pub bothAnswer : ℕ → P .State ⊎ Q .State → Bool → P .Input ⊎ Q .Input → P .Answer ⊎ Q .Answer
-  bothAnswer i (inl s) g (inl x) = inl (P .answer i s g x)
-  bothAnswer i (inl s) g (inr x) = inr (Q .refused x)
-  bothAnswer i (inr s) g (inl x) = inl (P .refused x)
-  bothAnswer i (inr s) g (inr x) = inr (Q .answer i s g x)
+  abbrev pub turnAsks : {A : Type 0} → ℕ → Turn P Q A → Bool
+  turnAsks i (first s x) = P .asks i s x
+  turnAsks i (second s x) = Q .asks i s x
+  turnAsks i (neither s a) = false
 
-  abbrev pub both : Protocol
-  both = record {
+  abbrev pub turnNext : {A : Type 0} → ℕ → Turn P Q A → Bool → P .State ⊎ Q .State
+  turnNext i (first s x) g = inl (P .next i s g x)
+  turnNext i (second s x) g = inr (Q .next i s g x)
+  turnNext i (neither s a) g = s
+
+  abbrev pub turnAnswer : (S : Sides P Q) → ℕ → Turn P Q (S .Answer) → Bool → S .Answer
+  turnAnswer S i (first s x) g = S .said-first (P .answer i s g x)
+  turnAnswer S i (second s x) g = S .said-second (Q .answer i s g x)
+  turnAnswer S i (neither s a) g = a
+
+  abbrev pub both : Sides P Q → Protocol
+  both S = record {
     State = P .State ⊎ Q .State;
-    Input = P .Input ⊎ Q .Input;
-    Answer = P .Answer ⊎ Q .Answer;
-    held = bothHeld;
-    asks = bothAsks;
-    next = bothNext;
-    answer = bothAnswer;
-    refused = bothRefused;
+    Input = S .Input;
+    Answer = S .Answer;
+    held = heldBoth P Q;
+    asks = λ i s x. turnAsks i (S .turn i s x);
+    next = λ i s g x. turnNext i (S .turn i s x) g;
+    answer = λ i s g x. turnAnswer S i (S .turn i s x) g;
+    refused = S .refused;
   }

@@ -7,7 +7,8 @@ use mathlib.Core.List.{List}
 use Rattle.shares.specs.Pool.{Pool, Sound, free, othersLack}
 use Rattle.shares.specs.Rack.{Protocol, Call, Rack, holds, asked, gets, run, answers, answersOn, AllModest, ModestOn, strike}
 
--- what holds of each rack that is reached; i is the holder of a further call, x what the call gives it
+-- What holds of each rack that is reached; i is the holder of a further call, x what the call gives it. `gets` says that
+-- the call asks and is given a cell; what a holder then does with it is its protocol's own promise.
 pub record Reached (K : Pool) (P : Protocol) (r : Rack P) : Type 0 where
   -- the pool stays sound
   pub sound : Sound K (holds P r)

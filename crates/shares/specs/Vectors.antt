@@ -1,5 +1,5 @@
 -- P11 and P12 of document 01, free of bytes.
-use Prim.Native.Nat.{ℕ, suc}
+use Prim.Native.Nat.{ℕ, suc, _<_}
 use mathlib.Core.Path.{_≡_}
 use mathlib.Core.Bool.{Bool, true, false, cond}
 use mathlib.Core.List.{List, [], _∷_, _++_}
@@ -61,10 +61,11 @@ asks0 n = replicate n (on 0 tt)
 pub record Eleven : Type 0 where
   -- it gets its 26th cell and ends with 20 at the 27th
   pub told : answers p11 asker idle (asks0 27) ≡ replicate 26 0 ++ (20 ∷ [])
-  -- at the 26th 71 are free and 70 lacking, at the 27th 70 are free
+  -- at the 26th 71 are free and 70 lacking, at the 27th 70 and 70
   pub free-26 : free p11 (holds asker (run p11 asker idle (asks0 25))) ≡ 71
   pub lacking-26 : othersLack p11 (holds asker (run p11 asker idle (asks0 25))) 0 ≡ 70
   pub free-27 : free p11 (holds asker (run p11 asker idle (asks0 26))) ≡ 70
+  pub lacking-27 : othersLack p11 (holds asker (run p11 asker idle (asks0 26))) 0 ≡ 70
 
 -- ---- P12: eight shares, n for holder 0 and 12 for each other
 
@@ -78,3 +79,5 @@ pub record Twelve : Type 0 where
   -- 97 is refused
   pub adds-97 : sum 8 (p12 13 .share) ≡ 97
   pub refused : fit (p12 13) ≡ false
+  -- and so are any that add to more than the cells
+  pub beyond : (K : Pool) → K .cells < sum (K .holders) (K .share) → fit K ≡ false

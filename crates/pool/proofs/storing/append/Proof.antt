@@ -6,7 +6,7 @@ use lib.ListN.{length}
 use denote.Ref.{now}
 use borrow.Author.Needs.{needs}
 use borrow.Author.Tests.{leb-true}
-use Rattle.region.specs.Layout.{cellSize, piece}
+use Rattle.region.specs.Layout.{cellSize}
 use Rattle.region.specs.Sound.{pieceSize}
 use Rattle.pool.specs.Calls.{appended}
 use Rattle.pool.proofs.CallLaws.{appends-takes, appends-size, appended-no}

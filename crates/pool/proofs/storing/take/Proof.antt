@@ -6,8 +6,6 @@ use denote.Ref.{now}
 use borrow.Author.Needs.{needs}
 use Rattle.region.specs.Layout.{sharesAt, ceilingsAt, held}
 use Rattle.pool.specs.Calls.{lowest, stored}
-use Rattle.shares.specs.Pool.{given}
-use Rattle.region.specs.Holding.{granted}
 use Rattle.pool.proofs.CallLaws.{takes-yes, takes-full, takes-no}
 use Rattle.region.proofs.HolderLaws.{granted-facts, granted-low}
 use Rattle.pool.proofs.storing.take.Statement.{statement}

@@ -10,16 +10,16 @@ use Rattle.region.proofs.holding.granted.Tie as tie
 is-holder-requires : tie.Need-is-holder-requires
 is-holder-requires c κs = search needs
 
-grants-to-requires : tie.Need-grants-to-requires
-grants-to-requires c κs = let f = inside-facts (now (c .before .before .before .args .r)) (c .before .before .before .args .i) (sym (c .before .is-holder .ensures) ∙ c .if1 .taken) in (f .0, f .1)
+rule-grants-requires : tie.Need-rule-grants-requires
+rule-grants-requires c κs = let f = inside-facts (now (c .before .before .before .args .r)) (c .before .before .before .args .i) (sym (c .before .is-holder .ensures) ∙ c .if1 .taken) in (f .0, f .1)
 
 returns : tie.Need-returns
 unfolding granted
-returns c = simp (sym (c .before .before .is-holder .ensures) ∙ c .before .if1 .taken, c .grants-to .ensures)
+returns c = simp (sym (c .before .before .is-holder .ensures) ∙ c .before .if1 .taken, c .rule-grants .ensures)
 
 returns-2 : tie.Need-returns-2
 unfolding granted
 returns-2 c = simp (sym (c .before .is-holder .ensures) ∙ c .if1 .left)
 
 pub granted-spec : {M : Type 1} → statement M
-granted-spec = tie.close (tie.spec is-holder-requires grants-to-requires returns returns-2)
+granted-spec = tie.close (tie.spec is-holder-requires rule-grants-requires returns returns-2)

@@ -1,12 +1,12 @@
 -- `region::holding::held_in_all`: what the holders before j hold is added. Assumes nothing.
-use Prim.Native.Nat.{ℕ, _*_, _-_, _≤_, _+_}
-use mathlib.Core.Path.{_≡_, refl, sym, ap, ap₂, _∙_}
+use Prim.Native.Nat.{_*_, _-_, _≤_, _+_}
+use mathlib.Core.Path.{_≡_, refl, sym, ap₂, _∙_}
 use native.Mathlib.Omega.{arith}
 use denote.Ref.{now}
 use borrow.Author.Needs.{needs}
 use Rattle.region.specs.Layout.{holders, held}
 use Rattle.lent.specs.Fold.{sum}
-use Rattle.lent.proofs.FoldLaws.{sum-next}
+use Rattle.lent.proofs.FoldLaws.{sum-next, sum-end}
 use Rattle.region.proofs.holding.held_in_all.Statement.{statement}
 use Rattle.region.proofs.holding.held_in_all.Tie as tie
 
@@ -46,8 +46,7 @@ loop-again c =
 returns : tie.Need-returns Inv-loop μ-loop
 returns c =
     let l = c .before .loop in
-    let e : l .j ≡ holders = omega arith in
-    (l .inv .2 ∙ ap (λ (n : ℕ). sum n (held (now (c .before .before .before .args .r)))) e, omega arith)
+    (sum-end (held (now (c .before .before .before .args .r))) (l .j) holders (l .total) (omega arith) (l .inv .2), omega arith)
 
 pub held-in-all-spec : {M : Type 1} → statement M
 held-in-all-spec =

@@ -4,7 +4,6 @@ use native.Mathlib.Omega.{arith}
 use denote.Ref.{now}
 use borrow.Author.Needs.{needs}
 use borrow.Author.Tests.{eq-eqb, ne-eqb}
-use Rattle.shares.specs.Pool.{lack}
 use Rattle.region.proofs.LimitLaws.{share-at}
 use Rattle.region.proofs.holding.lack_but.Statement.{statement}
 use Rattle.region.proofs.holding.lack_but.Tie as tie

@@ -1,12 +1,12 @@
 -- `region::holding::others_lack`: what the holders before k lack is added, i left out. Assumes nothing.
-use Prim.Native.Nat.{ℕ, _*_, _-_, _≤_, _+_}
-use mathlib.Core.Path.{_≡_, refl, sym, ap, ap₂, _∙_}
+use Prim.Native.Nat.{_*_, _-_, _≤_, _+_}
+use mathlib.Core.Path.{_≡_, refl, sym, ap₂, _∙_}
 use native.Mathlib.Omega.{arith}
 use denote.Ref.{now}
 use Rattle.region.specs.Layout.{holders, held, poolIn}
 use Rattle.shares.specs.Pool.{lack, others}
 use Rattle.lent.specs.Fold.{sum}
-use Rattle.lent.proofs.FoldLaws.{sum-next}
+use Rattle.lent.proofs.FoldLaws.{sum-next, sum-end}
 use Rattle.region.proofs.holding.others_lack.Statement.{statement}
 use Rattle.region.proofs.holding.others_lack.Tie as tie
 
@@ -46,8 +46,7 @@ returns : tie.Need-returns Inv-loop μ-loop
 returns c =
     let l = c .before .loop in
     let a = c .before .before .before .args in
-    let e : l .k ≡ holders = omega arith in
-    l .inv .2 ∙ ap (λ (n : ℕ). sum n (others (a .i) (lack (poolIn (now (a .r))) (held (now (a .r)))))) e
+    sum-end (others (a .i) (lack (poolIn (now (a .r))) (held (now (a .r))))) (l .k) holders (l .total) (omega arith) (l .inv .2)
 
 pub others-lack-spec : {M : Type 1} → statement M
 others-lack-spec =

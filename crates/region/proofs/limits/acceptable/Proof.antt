@@ -1,6 +1,6 @@
 -- `region::limits::acceptable`: the holders before i are in order, and their shares are added. Assumes nothing.
 use Prim.Native.Nat.{ℕ, _+_, _*_, _-_, _≤_}
-use mathlib.Core.Path.{_≡_, refl, sym, ap, ap₂, _∙_, subst}
+use mathlib.Core.Path.{_≡_, refl, sym, ap, ap₂, _∙_}
 use mathlib.Core.Bool.{Bool, true, false, _&&_}
 use mathlib.Core.List.{List}
 use native.Mathlib.Omega.{arith}
@@ -12,7 +12,7 @@ use borrow.Author.Needs.{needs}
 use Rattle.region.specs.Layout.{holders, cells, poolOf}
 use Rattle.shares.specs.Pool.{fit, limit}
 use Rattle.lent.specs.Fold.{all, sum}
-use Rattle.lent.proofs.FoldLaws.{all-next, all-fails, sum-next}
+use Rattle.lent.proofs.FoldLaws.{all-next, all-fails, sum-next, all-end, sum-end}
 use Rattle.region.proofs.limits.acceptable.Statement.{statement}
 use Rattle.region.proofs.limits.acceptable.Tie as tie
 
@@ -81,10 +81,7 @@ returns-2 c =
     let a = c .before .before .before .before .args in
     let K = poolOf (now (a .shares)) (now (a .ceilings)) in
     let l = c .before .loop in
-    let e : l .i ≡ holders = omega arith in
-    let f : all holders (limit K) ≡ true = subst (λ (n : ℕ). all n (limit K) ≡ true) e (l .inv .2) in
-    let g : l .total ≡ sum holders (K .share) = subst (λ (n : ℕ). l .total ≡ sum n (K .share)) e (l .inv .3) in
-    rw (f, g)
+    rw (all-end (limit K) (l .i) holders (omega arith) (l .inv .2), sum-end (K .share) (l .i) holders (l .total) (omega arith) (l .inv .3))
 
 pub acceptable-spec : {M : Type 1} → statement M
 acceptable-spec =

@@ -1,6 +1,6 @@
 -- `region::sound::are_holdings`: the holders before j are under their ceilings, and what they hold and lack is added. Assumes nothing.
 use Prim.Native.Nat.{ℕ, _+_, _*_, _-_, _≤_}
-use mathlib.Core.Path.{_≡_, refl, sym, ap, ap₂, _∙_, subst}
+use mathlib.Core.Path.{_≡_, refl, sym, ap, ap₂, _∙_}
 use mathlib.Core.Bool.{Bool, true, false, _&&_}
 use mathlib.Core.List.{List}
 use native.Mathlib.Omega.{arith}
@@ -12,7 +12,7 @@ use borrow.Author.Needs.{needs}
 use Rattle.region.specs.Layout.{holders, cells, ceilingsAt, held, poolIn}
 use Rattle.shares.specs.Pool.{lack, free, sound}
 use Rattle.lent.specs.Fold.{all, sum}
-use Rattle.lent.proofs.FoldLaws.{all-next, all-fails, sum-next}
+use Rattle.lent.proofs.FoldLaws.{all-next, all-fails, sum-next, all-end, sum-end}
 use Rattle.region.proofs.LimitLaws.{share-at, ceiling-at}
 use Rattle.region.proofs.sound.are_holdings.Statement.{statement}
 use Rattle.region.proofs.sound.are_holdings.Tie as tie
@@ -24,9 +24,9 @@ under r j = leb (held r j) (poolIn r .ceiling j)
 whole : (r : List ℕ) (total lacking j : ℕ) → j ≡ holders → all j (under r) ≡ true → total ≡ sum j (held r) → lacking ≡ sum j (lack (poolIn r) (held r))
     → (all holders (under r) ≡ true) × (total ≡ sum holders (held r)) × (lacking ≡ sum holders (lack (poolIn r) (held r)))
 whole r total lacking j e a b d = (
-  subst (λ (n : ℕ). all n (under r) ≡ true) e a,
-  subst (λ (n : ℕ). total ≡ sum n (held r)) e b,
-  subst (λ (n : ℕ). lacking ≡ sum n (lack (poolIn r) (held r))) e d,
+  all-end (under r) j holders e a,
+  sum-end (held r) j holders total e b,
+  sum-end (lack (poolIn r) (held r)) j holders lacking e d,
 )
 
 abbrev Inv-loop : tie.InvT-loop

@@ -1,6 +1,6 @@
 -- `region::sound::are_lists`: the lists of the holders before i are well. Assumes nothing.
-use Prim.Native.Nat.{ℕ, _-_, _≤_}
-use mathlib.Core.Path.{_≡_, refl, sym, _∙_, subst}
+use Prim.Native.Nat.{_-_, _≤_}
+use mathlib.Core.Path.{_≡_, refl, sym, _∙_}
 use mathlib.Core.Bool.{true, false}
 use native.Mathlib.Omega.{arith}
 use denote.Ref.{now}
@@ -8,7 +8,7 @@ use borrow.Author.Tests.{not-true, not-false}
 use Rattle.region.specs.Layout.{holders}
 use Rattle.region.specs.Sound.{listWell}
 use Rattle.lent.specs.Fold.{all}
-use Rattle.lent.proofs.FoldLaws.{all-next, all-fails}
+use Rattle.lent.proofs.FoldLaws.{all-next, all-fails, all-end}
 use Rattle.region.proofs.sound.are_lists.Statement.{statement}
 use Rattle.region.proofs.sound.are_lists.Tie as tie
 
@@ -48,8 +48,7 @@ loop-again c =
 returns-2 : tie.Need-returns-2 Inv-loop μ-loop
 returns-2 c =
     let l = c .before .loop in
-    let e : l .i ≡ holders = omega arith in
-    sym (subst (λ (n : ℕ). all n (listWell (now (c .before .before .before .args .r))) ≡ true) e (l .inv .1))
+    sym (all-end (listWell (now (c .before .before .before .args .r))) (l .i) holders (omega arith) (l .inv .1))
 
 pub are-lists-spec : {M : Type 1} → statement M
 are-lists-spec =

@@ -1,6 +1,6 @@
 -- `region::sound::is_list`: the first k cells of the list are the holder's first pieces. Assumes nothing.
-use Prim.Native.Nat.{ℕ, _-_, _≤_, _<_}
-use mathlib.Core.Path.{_≡_, refl, sym, _∙_, subst}
+use Prim.Native.Nat.{_-_, _≤_, _<_}
+use mathlib.Core.Path.{_≡_, refl, sym, _∙_}
 use mathlib.Core.Bool.{true, false}
 use native.Mathlib.Omega.{arith}
 use denote.Ref.{now}
@@ -9,7 +9,7 @@ use borrow.Author.Needs.{needs}
 use Rattle.region.specs.Layout.{held}
 use Rattle.region.specs.Sound.{listedWell, listWell}
 use Rattle.lent.specs.Fold.{all}
-use Rattle.lent.proofs.FoldLaws.{all-next, all-fails}
+use Rattle.lent.proofs.FoldLaws.{all-next, all-fails, all-end}
 use Rattle.region.proofs.sound.is_list.Statement.{statement}
 use Rattle.region.proofs.sound.is_list.Tie as tie
 
@@ -63,8 +63,7 @@ unfolding listWell
 returns-2 c =
     let a = c .before .before .before .before .before .args in
     let l = c .before .loop in
-    let e : l .k ≡ held (now (a .r)) (a .i) = omega arith in
-    sym (subst (λ (n : ℕ). all n (listedWell (now (a .r)) (a .i)) ≡ true) e (l .inv .3))
+    sym (all-end (listedWell (now (a .r)) (a .i)) (l .k) (held (now (a .r)) (a .i)) (omega arith) (l .inv .3))
 
 pub is-list-spec : {M : Type 1} → statement M
 is-list-spec =

@@ -2,7 +2,6 @@
 use native.Mathlib.Omega.{arith}
 use borrow.Author.Needs.{needs}
 use borrow.Author.Tests.{eq-eqb, ne-eqb}
-use Rattle.region.specs.Layout.{owner, place}
 use Rattle.region.proofs.sound.is_marked.Statement.{statement}
 use Rattle.region.proofs.sound.is_marked.Tie as tie
 

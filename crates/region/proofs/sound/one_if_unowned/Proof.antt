@@ -1,7 +1,7 @@
 -- `region::sound::one_if_unowned`: one and none. Assumes nothing.
 use native.Mathlib.Omega.{arith}
 use borrow.Author.Tests.{eq-eqb, ne-eqb}
-use Rattle.region.specs.Layout.{unowned, owner}
+use Rattle.region.specs.Layout.{unowned}
 use Rattle.region.proofs.sound.one_if_unowned.Statement.{statement}
 use Rattle.region.proofs.sound.one_if_unowned.Tie as tie
 

@@ -1,13 +1,13 @@
 -- `region::sound::unowned_in_all`: the cells before c that nobody owns are counted. Assumes nothing.
-use Prim.Native.Nat.{ℕ, _+_, _-_, _≤_}
-use mathlib.Core.Path.{_≡_, refl, sym, ap, ap₂, _∙_}
+use Prim.Native.Nat.{_+_, _-_, _≤_}
+use mathlib.Core.Path.{_≡_, refl, sym, ap₂, _∙_}
 use native.Mathlib.Omega.{arith}
 use denote.Ref.{now}
 use borrow.Author.Needs.{needs}
 use Rattle.region.specs.Layout.{cells}
 use Rattle.region.specs.Sound.{freeAt}
 use Rattle.lent.specs.Fold.{sum}
-use Rattle.lent.proofs.FoldLaws.{sum-next}
+use Rattle.lent.proofs.FoldLaws.{sum-next, sum-end}
 use Rattle.region.proofs.sound.unowned_in_all.Statement.{statement}
 use Rattle.region.proofs.sound.unowned_in_all.Tie as tie
 
@@ -47,8 +47,7 @@ loop-again c =
 returns : tie.Need-returns Inv-loop μ-loop
 returns c =
     let l = c .before .loop in
-    let e : l .c ≡ cells = omega arith in
-    (l .inv .2 ∙ ap (λ (n : ℕ). sum n (freeAt (now (c .before .before .before .args .r)))) e, omega arith)
+    (sum-end (freeAt (now (c .before .before .before .args .r))) (l .c) cells (l .total) (omega arith) (l .inv .2), omega arith)
 
 pub unowned-in-all-spec : {M : Type 1} → statement M
 unowned-in-all-spec =

@@ -1,13 +1,13 @@
--- `region::holding::grants_to`: the rule on the numbers that stand in the region. Assumes nothing.
+-- `region::holding::rule_grants`: the rule on the numbers that stand in the region. Assumes nothing.
 use mathlib.Core.Path.{sym, _∙_}
 use native.Mathlib.Omega.{arith}
 use denote.Ref.{now}
 use borrow.Author.Needs.{needs}
-use Rattle.region.specs.Holding.{grants}
-use Rattle.shares.specs.Pool.{given, granted}
+use Rattle.region.specs.Holding.{ruleGrants}
+use Rattle.shares.specs.Pool.{granted}
 use Rattle.region.proofs.LimitLaws.{share-at, ceiling-at}
-use Rattle.region.proofs.holding.grants_to.Statement.{statement}
-use Rattle.region.proofs.holding.grants_to.Tie as tie
+use Rattle.region.proofs.holding.rule_grants.Statement.{statement}
+use Rattle.region.proofs.holding.rule_grants.Tie as tie
 
 add-held : tie.Need-add-held
 add-held c = search needs
@@ -37,14 +37,14 @@ given-requires : tie.Need-given-requires
 given-requires c κs = search needs
 
 returns : tie.Need-returns
-unfolding grants granted
+unfolding ruleGrants granted
 returns c =
     let a = c .before .before .before .before .before .before .before .args in
     c .given .ensures
     ∙ sym (rw (share-at (now (a .r)) (a .i) (omega arith), ceiling-at (now (a .r)) (a .i) (omega arith), ← c .before .before .others-lack .ensures, ← c .before .free-in .ensures))
 
-pub grants-to-spec : {M : Type 1} → statement M
-grants-to-spec =
+pub rule-grants-spec : {M : Type 1} → statement M
+rule-grants-spec =
     tie.close
     (tie.spec
     add-held
