@@ -1,5 +1,5 @@
 -- Laws of the folds: a loop's turn, and what a fold says of each number. Assumes nothing.
-use mathlib.Core.Path.{_≡_, refl, sym, ap₂, _∙_, subst}
+use mathlib.Core.Path.{_≡_, refl, sym, ap, ap₂, _∙_, subst}
 use mathlib.Core.Bool.{Bool, true, false, cond, _&&_, false≢true}
 use Prim.Native.Nat.{ℕ, zero, suc, _+_, _≤_, _<_}
 use native.Mathlib.Numerals.{add-one}
@@ -59,21 +59,26 @@ module _ (f : ℕ → ℕ) where
   sum-zero zero e = refl
   sum-zero (suc n) e = omega (arith, sum-zero n (λ k h. e k (omega arith)), e n (omega arith))
 
+  -- terms of at most 1 sum to at most their number
+  sum-most : (n : ℕ) → ((k : ℕ) → k < n → f k ≤ 1) → sum n f ≤ n
+  unfolding sum
+  sum-most zero u = omega arith
+  sum-most (suc n) u = omega (arith, sum-most n (λ k h. u k (omega arith)), u n (omega arith))
+
+  -- and to less where one of them is 0
+  pub sum-below : (n i : ℕ) → i < n → f i ≡ 0 → ((k : ℕ) → k < n → f k ≤ 1) → sum n f < n
+  unfolding sum
+  sum-below zero i h z u = absurd (omega arith)
+  sum-below (suc n) i h z u =
+      eq-or-ne n i
+      (λ q. omega (arith, sum-most n (λ k l. u k (omega arith)), ap f q))
+      (λ q. omega (arith, sum-below n i (omega arith) z (λ k l. u k (omega arith)), u n (omega arith)))
+
   module _ (g : ℕ → ℕ) where
     pub sum-ext : (n : ℕ) → ((k : ℕ) → k < n → f k ≡ g k) → sum n f ≡ sum n g
     unfolding sum
     sum-ext zero e = refl
     sum-ext (suc n) e = ap₂ _+_ (sum-ext n (λ k h. e k (omega arith))) (e n (omega arith))
-
-    pub sum-le : (n : ℕ) → ((k : ℕ) → k < n → f k ≤ g k) → sum n f ≤ sum n g
-    unfolding sum
-    sum-le zero e = omega arith
-    sum-le (suc n) e = omega (arith, sum-le n (λ k h. e k (omega arith)), e n (omega arith))
-
-    pub sum-add : (n : ℕ) → sum n (λ k. f k + g k) ≡ sum n f + sum n g
-    unfolding sum
-    sum-add zero = refl
-    sum-add (suc n) = omega (arith, sum-add n)
 
     -- the term at i grows by d, and the others stay
     pub sum-grow : (n i d : ℕ) → i < n → g i ≡ f i + d → ((k : ℕ) → k < n → (k ≡ i → ⊥) → g k ≡ f k) → sum n g ≡ sum n f + d

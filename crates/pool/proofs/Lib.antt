@@ -6,6 +6,7 @@ pub mod HoldingLaws
 pub mod StoredLaws
 pub mod AppendLaws
 pub mod ReleaseLaws
+pub mod ListedLaws
 pub mod FreshLaws
 pub mod ResponseLaws
 pub mod ShowsAppend

@@ -94,13 +94,13 @@ module _ (r : List ℕ) (i : ℕ) (li : i < holders) (g : Good r) where
       pool-set f (heldAt + i) 0 (omega arith)
       ∙ turns poolIn m (omega arith) (λ t o l. pool-set t (ownersAt + listed r i o) unowned (omega arith))
 
-  held-none : held q i ≡ 0
+  pub held-none : held q i ≡ 0
   held-none = getD-set-same f (heldAt + i) 0 0 (omega (arith, g .long, freed-length r i m))
 
-  held-same : (j : ℕ) → j < holders → (j ≡ i → ⊥) → held q j ≡ held r j
+  pub held-same : (j : ℕ) → j < holders → (j ≡ i → ⊥) → held q j ≡ held r j
   held-same j h d = same (heldAt + j) (λ x l z. omega arith) (λ z. d (omega arith))
 
-  listed-same : (j k : ℕ) → listed q j k ≡ listed r j k
+  pub listed-same : (j k : ℕ) → listed q j k ≡ listed r j k
   listed-same j k = same (listsAt + (j * cells + k)) (λ x l z. omega arith) (omega arith)
 
   place-same : (c : ℕ) → c < cells → place q c ≡ place r c
@@ -131,11 +131,15 @@ module _ (r : List ℕ) (i : ℕ) (li : i < holders) (g : Good r) where
   pub emptied-shows : shown q ≡ having (shown r) i []
   emptied-shows = shown-having r q i [] li pool-released emptied others-stay
 
+  -- the owner of a cell that is not in the list stays
+  pub owner-same : (c : ℕ) → ((o : ℕ) → o < m → c ≡ listed r i o → ⊥) → owner q c ≡ owner r c
+  owner-same c w = owner-f c ∙ owner-kept m (omega arith) c w
+
   -- a piece of another holder stays its
   piece-stays : (j k c : ℕ) → (j ≡ i → ⊥) → Piece r j k c → Piece q j k c
   piece-stays j k c n w = record {
     low = w .low;
-    owned = owner-f c ∙ owner-kept m (omega arith) c (λ o l e. n (sym (w .owned) ∙ ap (owner r) e ∙ own o l .owned)) ∙ w .owned;
+    owned = owner-same c (λ o l e. n (sym (w .owned) ∙ ap (owner r) e ∙ own o l .owned)) ∙ w .owned;
     placed = place-same c (w .low) ∙ w .placed;
     some = rw (len-same c (w .low)) (w .some);
     short = rw (len-same c (w .low)) (w .short);
