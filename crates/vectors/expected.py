@@ -13,7 +13,7 @@ from functools import reduce
 from pathlib import Path
 
 sys.dont_write_bytecode = True
-from pool import Pool, opens, sound  # noqa: E402
+from pool import Pool, Raw, opens, sound  # noqa: E402
 
 LIST = Path(__file__).with_name("atrs.txt")
 
@@ -218,18 +218,37 @@ def holding(pool, i):
     print(f" held {pool.held(i)} free {pool.free()} next {yes(pool.granted(i))}")
 
 
+def counting(n, v):
+    return bytes((v + j) % 256 for j in range(n))
+
+
+def copied(response, out):
+    fits = len(response) <= len(out)
+    return fits, (response + out[len(response) :] if fits else out)
+
+
+def copies(pool, i, n):
+    fits, out = copied(pool.response(i), b"\xaa" * n)
+    print(f"response {len(pool.response(i))}: copied {yes(fits)}{hexed(out)}")
+
+
+def piece(pool, i, n, v):
+    taken = pool.append(i, counting(n, v))
+    print(f"piece of {n}: taken {yes(taken)}", end="")
+    holding(pool, i)
+    return taken
+
+
 def eleven():
     print("P11")
     pool = opening(None, [10] * 8, [96] + [10] * 7)
     for n in range(1, 28):
-        taken = pool.append(0, bytes([n]) * n)
-        assert taken == (n <= 26)
-        print(f"piece {n}: taken {yes(taken)}", end="")
-        holding(pool, 0)
-        if n == 25:
+        if n in (26, 27):
             # the paper's own figures
-            assert pool.free() == 71 and sum(10 - pool.held(j) for j in range(1, 8)) == 70
-    print(f"response {len(pool.response(0))}: copied yes{hexed(pool.response(0))}")
+            assert (pool.free(), sum(10 - pool.held(j) for j in range(1, 8))) == (97 - n, 70)
+        assert piece(pool, 0, n, n) == (n <= 26)
+    for i, n in ((0, 350), (0, 351), (0, 360), (8, 350)):
+        copies(pool, i, n)
     pool.release(0)
     print("released:", end="")
     holding(pool, 0)
@@ -247,44 +266,72 @@ def twelve():
         pool = opening(pool, shares, ceilings)
 
 
+def sizes():
+    print("sizes")
+    pool = opening(None, [12] * 8, [12] * 8)
+    for v, n in enumerate((0, 1, 254, 255), 1):
+        piece(pool, 7, n, v)
+
+
 def folded(d, v):
     return (d * 31 + v) % 65521
 
 
-def mixed():
+def made(pool):
     """Appends and releases by a counter, holder 8 and pieces of 0 and 255 bytes among them."""
-    print("mixed")
-    pool = opening(None, [4, 12, 20, 0, 10, 10, 10, 10], [10, 40, 96, 3, 10, 12, 50, 96])
     x, d = 1, 0
     for _ in range(3000):
         x = (x * 1103 + 12345) % 65536
         i, answer = x // 16 % 9, 2
         if x // 256 % 64 == 0:
             pool.release(i)
-        elif pool.append(i, bytes([x % 251]) * (x // 16 % 256)):
+        elif pool.append(i, counting(x // 16 % 256, x % 251)):
             answer = 1
-        d = folded(d, answer + 3 + pool.held(i) * 8 + pool.free() * 2048)
-    region = pool.region()
-    assert sound(region)
-    print(f"answers {d} bytes {reduce(folded, region, 0)}")
+        d = folded(d, answer + 3 * pool.sound() + pool.held(i) * 8 + pool.free() * 2048)
+    print(f"answers {d} bytes {reduce(folded, pool.region(), 0)}")
     for i in range(9):
-        print(f"holder {i}: length {len(pool.response(i))}", end="")
+        _, out = copied(pool.response(i), b"\xaa" * 24400)
+        print(f"holder {i}: length {len(pool.response(i))} response {reduce(folded, out, 0)}", end="")
         holding(pool, i)
+
+
+def mixed():
+    print("mixed")
+    pool = opening(None, [4, 12, 20, 0, 10, 10, 10, 10], [10, 40, 96, 3, 10, 12, 50, 96])
+    made(pool)
+    return pool.region()
+
+
+def damaged(region, v, whole):
+    places = [a for a in range(1080) if sound(region[:a] + bytes([v if whole else region[a] ^ v]) + region[a + 1 :])]
+    print(f"{'set to' if whole else 'changed by'} {v:02x}: sound at {reduce(folded, places, 0)}")
+
+
+def scattered(x):
+    region = bytearray()
+    for _ in range(25464):
+        x = (x * 1103 + 12345) % 65536
+        region.append(x // 256)
     return region
-
-
-def damaged(region, v):
-    places = [a for a in range(1080) if sound(region[:a] + bytes([region[a] ^ v]) + region[a + 1 :])]
-    print(f"changed by {v:02x}: sound at {reduce(folded, places, 0)}")
 
 
 def cells():
     eleven()
     twelve()
+    sizes()
     region = mixed()
-    for v in (1, 2, 128, 255):
-        damaged(region, v)
-    print(f"one byte short: sound {yes(sound(region[:-1]))}")
+    for v, whole in ((1, False), (2, False), (128, False), (255, False), (0, True), (255, True)):
+        damaged(region, v, whole)
+    print("unsound")
+    for x in (1, 77):
+        pool = Raw(scattered(x))
+        made(pool)
+    print("lengths")
+    zeros, fresh = "".join([" 00"] * 8), Pool([0] * 8, [0] * 8).region()
+    # one byte too few: nothing is laid out; six too many: they stay
+    for words, end in (("opens no, sound no", b"\xaa" * 3), ("opens yes, sound yes", fresh[25460:] + b"\xaa" * 6)):
+        print(f"shares{zeros} ceilings{zeros}: {words}")
+        print(hexed(end))
 
 
 if sys.argv[1:] == ["stdin"]:

@@ -1,6 +1,8 @@
-"""The pool by document 01's "Shares" and docs/LAYOUT.md, for expected.py: lists of pieces, and bytes only at the end.
+"""The pool by document 01's "Shares" and docs/LAYOUT.md, for expected.py.
 
-Nothing here is taken from the Rattle side. A holder is a list of (cell, bytes); the rule is the paper's sentence.
+Nothing here is taken from the Rattle side. `Pool` is the paper's pool: a holder is a list of (cell, bytes), the rule is the
+paper's sentence, and bytes are made only when they are asked for. `Raw` is what docs/LAYOUT.md says the calls do to bytes
+that may be no sound region.
 """
 CELLS, CELL, HOLDERS = 96, 254, 8
 
@@ -46,6 +48,9 @@ class Pool:
     def response(self, i):
         return b"".join(piece for _, piece in self.pieces[i]) if i < HOLDERS else b""
 
+    def sound(self):
+        return sound(self.region())
+
     def region(self):
         """The bytes of docs/LAYOUT.md."""
         owners = [255] * CELLS
@@ -54,6 +59,55 @@ class Pool:
                 owners[cell] = i
         head = self.shares + self.ceilings + [self.held(i) for i in range(HOLDERS)] + owners + self.place + self.length
         return bytes(head + sum(self.lists, [])) + b"".join(self.memory)
+
+
+class Raw:
+    def __init__(self, region):
+        self.r = bytearray(region)
+
+    def held(self, i):
+        return self.r[16 + i] if i < HOLDERS else 0
+
+    def free(self):
+        return max(CELLS - sum(self.r[16:24]), 0)
+
+    def granted(self, i):
+        if i >= HOLDERS:
+            return False
+        share, ceiling, held = self.r[i], self.r[8 + i], self.r[16 + i]
+        lacking = sum(max(self.r[j] - self.r[16 + j], 0) for j in range(HOLDERS) if j != i)
+        return held < share or (held < ceiling and self.free() > lacking)
+
+    def append(self, i, piece):
+        unowned = [c for c in range(CELLS) if self.r[24 + c] == 255]
+        if not 1 <= len(piece) <= CELL or not self.granted(i) or not unowned:
+            return False
+        cell, held = unowned[0], self.r[16 + i]
+        self.r[1080 + CELL * cell : 1080 + CELL * cell + len(piece)] = piece
+        self.r[24 + cell], self.r[120 + cell], self.r[216 + cell] = i, held, len(piece)
+        self.r[312 + CELLS * i + held] = cell
+        self.r[16 + i] = held + 1
+        return True
+
+    def listed(self, i):
+        at = 312 + CELLS * i
+        return list(self.r[at : at + self.held(i)])
+
+    def release(self, i):
+        if i < HOLDERS:
+            for c in self.listed(i):
+                self.r[24 + c] = 255
+            self.r[16 + i] = 0
+
+    def response(self, i):
+        cells = [c for c in self.listed(i) if c < CELLS and self.r[216 + c] <= CELL] if i < HOLDERS else []
+        return b"".join(bytes(self.r[1080 + CELL * c : 1080 + CELL * c + self.r[216 + c]]) for c in cells)
+
+    def sound(self):
+        return sound(bytes(self.r))
+
+    def region(self):
+        return bytes(self.r)
 
 
 def opens(shares, ceilings):

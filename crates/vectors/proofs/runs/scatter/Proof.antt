@@ -1,17 +1,17 @@
--- `vectors::cells::calls`: n calls were made. Assumes nothing.
+-- `vectors::runs::scatter`: the bytes before j are written. Assumes nothing.
 use native.Mathlib.Omega.{arith}
-use lib.ListN.{length}
+use lib.ListN.{length, length-set}
 use Prim.Native.Nat.{_-_, _≤_, _<_}
 use mathlib.Core.Path.{_≡_}
 use borrow.Author.Needs.{needs}
-use Rattle.vectors.proofs.cells.calls.Statement.{statement}
-use Rattle.vectors.proofs.cells.calls.Tie as tie
+use Rattle.vectors.proofs.runs.scatter.Statement.{statement}
+use Rattle.vectors.proofs.runs.scatter.Tie as tie
 
 abbrev Inv-loop : tie.InvT-loop
-Inv-loop r₀ x₀ d₀ n₀ r x d n = (n ≤ 3000) × (x < 65536) × (d < 65521) × (length r ≡ length r₀)
+Inv-loop s₀ x x₀ j₀ s x' j = (j ≤ length s₀) × (x' < 65536) × (length s ≡ length s₀)
 
 abbrev μ-loop : tie.MeasureT-loop
-μ-loop r₀ x₀ d₀ n₀ r x d n = 3000 - n
+μ-loop s₀ x x₀ j₀ s x' j = length s₀ - j
 
 loop-holds : tie.Need-loop-holds Inv-loop μ-loop
 loop-holds c = omega arith
@@ -22,29 +22,29 @@ mul-x c = omega arith
 add-x : tie.Need-add-x Inv-loop μ-loop
 add-x c = omega arith
 
-call-requires : tie.Need-call-requires Inv-loop μ-loop
-call-requires c κs = search needs
+cast-s : tie.Need-cast-s Inv-loop μ-loop
+cast-s c = omega arith
 
-folded-requires : tie.Need-folded-requires Inv-loop μ-loop
-folded-requires c κs = omega arith
+slice-write-s : tie.Need-slice-write-s Inv-loop μ-loop
+slice-write-s c = omega arith
 
-add-n : tie.Need-add-n Inv-loop μ-loop
-add-n c = omega arith
+add-j : tie.Need-add-j Inv-loop μ-loop
+add-j c = omega arith
 
 loop-less : tie.Need-loop-less Inv-loop μ-loop
 loop-less c = omega arith
 
 loop-again : tie.Need-loop-again Inv-loop μ-loop
-loop-again c = omega arith
+loop-again c = (omega arith, omega arith, simp length-set (omega arith))
 
 same-length : tie.Need-same-length Inv-loop μ-loop
 same-length c = omega arith
 
 returns : tie.Need-returns Inv-loop μ-loop
-returns c = omega arith
+returns c = search needs
 
-pub calls-spec : {M : Type 1} → statement M
-calls-spec =
+pub scatter-spec : {M : Type 1} → statement M
+scatter-spec =
     tie.close
     (tie.spec
     Inv-loop
@@ -52,9 +52,9 @@ calls-spec =
     loop-holds
     mul-x
     add-x
-    call-requires
-    folded-requires
-    add-n
+    cast-s
+    slice-write-s
+    add-j
     loop-less
     loop-again
     same-length

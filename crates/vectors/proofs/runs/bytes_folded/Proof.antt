@@ -1,10 +1,10 @@
--- `vectors::cells::bytes_folded`: the bytes before i are folded. Assumes nothing.
+-- `vectors::runs::bytes_folded`: the bytes before i are folded. Assumes nothing.
 use native.Mathlib.Omega.{arith}
 use lib.ListN.{length}
 use Prim.Native.Nat.{_-_, _≤_, _<_}
 use borrow.Author.Needs.{needs}
-use Rattle.vectors.proofs.cells.bytes_folded.Statement.{statement}
-use Rattle.vectors.proofs.cells.bytes_folded.Tie as tie
+use Rattle.vectors.proofs.runs.bytes_folded.Statement.{statement}
+use Rattle.vectors.proofs.runs.bytes_folded.Tie as tie
 
 abbrev Inv-loop : tie.InvT-loop
 Inv-loop s d₀ i₀ d i = (i ≤ length s) × (d < 65521)

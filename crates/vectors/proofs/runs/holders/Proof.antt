@@ -1,9 +1,9 @@
--- `vectors::cells::holders`: the holders before i were printed. Assumes nothing.
+-- `vectors::runs::holders`: the holders before i were printed. Assumes nothing.
 use native.Mathlib.Omega.{arith}
 use Prim.Native.Nat.{_-_, _≤_}
 use borrow.Author.Needs.{needs}
-use Rattle.vectors.proofs.cells.holders.Statement.{statement}
-use Rattle.vectors.proofs.cells.holders.Tie as tie
+use Rattle.vectors.proofs.runs.holders.Statement.{statement}
+use Rattle.vectors.proofs.runs.holders.Tie as tie
 
 abbrev Inv-loop : tie.InvT-loop
 Inv-loop r i₀ i = i ≤ 9

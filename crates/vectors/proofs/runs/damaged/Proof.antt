@@ -1,16 +1,16 @@
--- `vectors::cells::damaged`: the places before a were tried. Assumes nothing.
+-- `vectors::runs::damaged`: the places before a were tried. Assumes nothing.
 use native.Mathlib.Omega.{arith}
 use lib.ListN.{length}
 use Prim.Native.Nat.{_-_, _≤_, _<_}
 use mathlib.Core.Path.{_≡_}
-use Rattle.vectors.proofs.cells.damaged.Statement.{statement}
-use Rattle.vectors.proofs.cells.damaged.Tie as tie
+use Rattle.vectors.proofs.runs.damaged.Statement.{statement}
+use Rattle.vectors.proofs.runs.damaged.Tie as tie
 
 abbrev Inv-loop : tie.InvT-loop
-Inv-loop r₀ v d₀ a₀ r d a = (a ≤ 1080) × (d < 65521) × (length r ≡ length r₀)
+Inv-loop r₀ v whole d₀ a₀ r d a = (a ≤ 1080) × (d < 65521) × (length r ≡ length r₀)
 
 abbrev μ-loop : tie.MeasureT-loop
-μ-loop r₀ v d₀ a₀ r d a = 1080 - a
+μ-loop r₀ v whole d₀ a₀ r d a = 1080 - a
 
 loop-holds : tie.Need-loop-holds Inv-loop μ-loop
 loop-holds c = omega arith
