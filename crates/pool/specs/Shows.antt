@@ -20,9 +20,10 @@ pub record Fresh (r shares ceilings : List ℕ) : Type 0 where
 
 -- of a sound region:
 pub record Shows (r : List ℕ) : Type 0 where
-  -- shares and ceilings pass 2, holdings are sound, pieces have 1 to 254 bytes
+  -- eight holders, 96 cells
   pub many : shown r .limits .holders ≡ holders
   pub all : shown r .limits .cells ≡ cells
+  -- shares and ceilings pass 2, holdings are sound, pieces have 1 to 254 bytes
   pub fit : Fit (shown r .limits)
   pub holdings : Sound (shown r .limits) (holding (shown r))
   pub sizes : (i : ℕ) → sized (shown r .pieces i) ≡ true
