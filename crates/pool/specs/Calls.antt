@@ -34,7 +34,12 @@ lowest r = first cells (λ c. eqb (owner r c) unowned)
 -- cell c is holder i's piece n, the last that it holds, with the bytes xs
 unfoldable pub stored : List ℕ → ℕ → ℕ → ℕ → List ℕ → List ℕ
 stored r i n c xs =
-    set (set (set (set (set (splice r (cellsAt + c * cellSize) xs) (ownersAt + c) i) (placesAt + c) n) (lengthsAt + c) (length xs)) (listsAt + (i * cells + n)) c) (heldAt + i) (n + 1)
+    let filled = splice r (cellsAt + c * cellSize) xs in
+    let owned = set filled (ownersAt + c) i in
+    let placed = set owned (placesAt + c) n in
+    let measured = set placed (lengthsAt + c) (length xs) in
+    let entered = set measured (listsAt + (i * cells + n)) c in
+    set entered (heldAt + i) (n + 1)
 
 -- a cell is taken where one is granted (in a sound region one is then free)
 unfoldable pub takes : List ℕ → ℕ → Bool

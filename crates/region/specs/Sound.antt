@@ -45,6 +45,7 @@ sound r = leb size (length r) && soundIn r
 
 -- ---- the facts
 
+-- cell c is holder i's piece k
 pub record Piece (r : List ℕ) (i k c : ℕ) : Type 0 where
   pub low : c < cells
   pub owned : owner r c ≡ i
@@ -59,7 +60,7 @@ pub record Good (r : List ℕ) : Type 0 where
   pub fit : pool.Fit (poolIn r)
   -- no holder over its ceiling, no more held than there is, and free cells for all that is lacking
   pub holdings : pool.Sound (poolIn r) (held r)
-  -- each holder's list names its pieces, in order
-  pub pieces : (i k : ℕ) → i < holders → k < held r i → Piece r i k (listed r i k)
   -- as many cells are unowned as are free
   pub counted : sum cells (freeAt r) ≡ pool.free (poolIn r) (held r)
+  -- each holder's list names its pieces, in order
+  pub pieces : (i k : ℕ) → i < holders → k < held r i → Piece r i k (listed r i k)
