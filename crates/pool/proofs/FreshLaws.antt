@@ -51,9 +51,6 @@ module _ (sh ce : List ℕ) (ls : length sh ≡ holders) (lc : length ce ≡ hol
   unfolding fresh counts owners rest
   by-parts = refl
 
-  pub length-fresh : length (fresh sh ce) ≡ size
-  length-fresh = rw by-parts (simp lengths (omega arith))
-
   module _ (r : List ℕ) (lr : size ≤ length r) where
     abbrev q1 : List ℕ
     q1 = splice r 0 sh

@@ -1,10 +1,18 @@
 // A fresh region.
 ghost use mathlib.Core.Path.{_≡_};
-ghost use Prim.Native.Nat.{_≤_};
-ghost use lib.ListN.{length};
+ghost use Prim.Native.Nat.{_-_, _≤_};
+ghost use lib.ListN.{length, replicate};
 ghost use Rattle.lent.specs.Place.{splice};
-ghost use Rattle.region.specs.Layout.{size};
+ghost use Rattle.region.specs.Layout.{cellsAt, size};
 ghost use Rattle.pool.specs.Calls.{fresh, laysOut, laidOut};
+
+// Zeros from place a, somewhere in the head, to the region's end.
+fn clear(r: &mut [u8], a: usize)
+    requires { ⌜ (size ≤ length (now r)) × (a ≤ cellsAt) ⌝ }
+    ensures { λ _. ⌜ now (r .exit) ≡ splice (now (r .entry)) a (replicate (size - a) 0) ⌝ }
+{
+    lent::fill(r, a, region::layout::SIZE - a, 0);
+}
 
 // Writes every byte of the region, so that nothing of an earlier pool remains.
 fn write_all(r: &mut [u8], shares: &[u8; 8], ceilings: &[u8; 8])
@@ -16,12 +24,7 @@ fn write_all(r: &mut [u8], shares: &[u8; 8], ceilings: &[u8; 8])
     lent::fill(r, region::layout::HELD, region::layout::HOLDERS, 0);
     let map = [region::layout::UNOWNED; 96];
     lent::put(r, region::layout::OWNERS, &map);
-    lent::fill(
-        r,
-        region::layout::PLACES,
-        region::layout::SIZE - region::layout::PLACES,
-        0,
-    );
+    clear(r, region::layout::PLACES);
 }
 
 // Lays out a pool with these shares and ceilings: nothing is held, and nobody owns a cell. Answers whether it did; where

@@ -1,13 +1,13 @@
 -- `pool::response::join_into`: the first k pieces stand joined at the front. Assumes nothing.
-use Prim.Native.Nat.{_-_, _≤_, _<_}
+use Prim.Native.Nat.{_+_, _-_, _≤_, _<_}
 use mathlib.Core.Path.{_≡_, refl, sym, ap, _∙_}
 use native.Mathlib.Omega.{arith}
 use lib.ListN.{length}
 use denote.Ref.{now}
 use borrow.Author.Needs.{needs}
-use Rattle.region.specs.Layout.{held}
-use Rattle.pool.specs.Calls.{joined}
-use Rattle.pool.proofs.ResponseLaws.{length-step, turn, room}
+use Rattle.region.specs.Layout.{held, listed}
+use Rattle.pool.specs.Calls.{bytesIn, joined}
+use Rattle.pool.proofs.ResponseLaws.{length-step, room, turn}
 use Rattle.lent.proofs.PlaceLaws.{splice-none}
 use Rattle.lent.specs.Place.{splice}
 use Rattle.pool.proofs.response.join_into.Statement.{statement}
@@ -39,12 +39,21 @@ piece-of-requires c κs = omega arith
 put-requires : tie.Need-put-requires Inv-loop μ-loop
 put-requires c κs = search needs
 
-add-at : tie.Need-add-at Inv-loop μ-loop
-add-at c =
+-- the piece of this turn
+piece-is : (c : tie.After-slice-known2 Inv-loop μ-loop) → let a = c .before .before .before .before .before .before .before .before .before .before .before .args in let l = c .before .before .before .before .before .before .loop in
+    now (c .before .before .before .before .piece-of .result) ≡ bytesIn (now (a .r)) (listed (now (a .r)) (a .i) (l .k))
+piece-is c = c .before .before .before .before .piece-of .ensures .0
+
+-- it fits behind those before
+fits : (c : tie.After-slice-known2 Inv-loop μ-loop) → let a = c .before .before .before .before .before .before .before .before .before .before .before .args in let l = c .before .before .before .before .before .before .loop in
+    l .at + length (now (c .before .before .before .before .piece-of .result)) ≤ length (now (a .out))
+fits c =
     let a = c .before .before .before .before .before .before .before .before .before .before .before .args in
     let l = c .before .before .before .before .before .before .loop in
-    let w = c .before .before .before .before .piece-of in
-    omega (arith, room (now (a .r)) (a .i) (now (w .result)) (l .at) (l .k) (held (now (a .r)) (a .i)) (length (now (a .out))) (l .inv .3) (w .ensures .0) (omega arith) (omega arith))
+    room (now (a .r)) (a .i) (now (c .before .before .before .before .piece-of .result)) (l .at) (l .k) (held (now (a .r)) (a .i)) (length (now (a .out))) (l .inv .3) (piece-is c) (omega arith) (omega arith)
+
+add-at : tie.Need-add-at Inv-loop μ-loop
+add-at c = omega (arith, fits c)
 
 add-k : tie.Need-add-k Inv-loop μ-loop
 add-k c = omega arith
@@ -57,13 +66,13 @@ loop-again c =
     let a = c .before .before .before .before .before .before .before .before .before .before .before .args in
     let l = c .before .before .before .before .before .before .loop in
     let w = c .before .before .before .before .piece-of in
-    let h = room (now (a .r)) (a .i) (now (w .result)) (l .at) (l .k) (held (now (a .r)) (a .i)) (length (now (a .out))) (l .inv .3) (w .ensures .0) (omega arith) (omega arith) in (
+    let p : c .before .before .put .last .0 ≡ splice (l .out) (l .at) (now (w .result)) = c .before .before .put .ensures .1 in (
       omega arith,
       omega arith,
       omega arith,
-      omega (arith, ap length (w .ensures .0), length-step (now (a .r)) (a .i) (l .k)),
+      omega (arith, ap length (piece-is c), length-step (now (a .r)) (a .i) (l .k)),
       c .before .before .put .kept .0 ∙ l .inv .4,
-      c .before .before .put .ensures .1 ∙ turn (now (a .r)) (a .i) (now (a .out)) (l .out) (now (w .result)) (l .at) (l .k) (l .inv .5) (l .inv .3) (w .ensures .0) h,
+      p ∙ turn (now (a .r)) (a .i) (now (a .out)) (l .out) (now (w .result)) (l .at) (l .k) (l .inv .5) (l .inv .3) (piece-is c) (fits c),
     )
 
 same-length : tie.Need-same-length Inv-loop μ-loop
