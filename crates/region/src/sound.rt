@@ -113,7 +113,7 @@ fn one_if_unowned(owner: u8) -> u8
     }
 }
 
-// How many cells nobody owns. In u8, so that the compiler counts several cells at a time.
+// How many cells nobody owns. In u8, so that the compiler may count several cells at a time.
 fn unowned_in_all(r: &[u8]) -> u8
     requires { ⌜ size ≤ length (now r) ⌝ }
     ensures { λ n. ⌜ (n ≡ sum cells (freeAt (now (r .entry)))) × (n ≤ 96) ⌝ }
