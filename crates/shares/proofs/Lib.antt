@@ -6,5 +6,7 @@ pub mod RunLaws
 pub mod StrikeLaws
 pub mod DemandLaws
 pub mod BothLaws
+pub mod DecideLaws
+pub mod LogLaws
 pub mod Vectors
 pub mod Settled

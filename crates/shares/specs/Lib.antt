@@ -3,4 +3,6 @@ pub mod Pool
 pub mod Rack
 pub mod Demand
 pub mod Both
+pub mod Decide
+pub mod Log
 pub mod Vectors

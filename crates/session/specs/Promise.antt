@@ -1,0 +1,27 @@
+-- What is promised of T=1 over a pool, from any rack whose pool is sound: of each slot that starts empty, over any calls on
+-- any slots, refused ones among them.
+use Prim.Native.Nat.{ℕ, _≤_, _<_}
+use mathlib.Core.Path.{_≡_}
+use mathlib.Core.List.{List, []}
+use Rattle.shares.specs.Pool.{Pool}
+use Rattle.shares.specs.Rack.{Call, Rack, run}
+use Rattle.shares.specs.Demand.{Demand3}
+use Rattle.shares.specs.Log.{logOn}
+use Rattle.session.specs.Slot.{stateNo, heldIn, empty}
+use Rattle.session.specs.Protocol.{t1}
+use Rattle.session.specs.History.{heldBy, stateIn, AllTold}
+use Rattle.session.specs.Kept.{Kept}
+
+pub record Slot (K : Pool) (r : Rack t1) (i : ℕ) (cs : List (Call t1)) : Type 0 where
+  -- every call was answered as its past says
+  pub told : AllTold (K .ceiling i) (logOn K t1 i r [] cs)
+  -- the slot is in the state that was told last, and holds what its past says, within its ceiling
+  pub state : stateNo (run K t1 r cs i) ≡ stateIn (logOn K t1 i r [] cs)
+  pub held : heldIn (run K t1 r cs i) ≡ heldBy (logOn K t1 i r [] cs)
+  pub ceiling : heldIn (run K t1 r cs i) ≤ K .ceiling i
+  -- and its invariant is kept
+  pub kept : Kept (run K t1 r cs i)
+
+pub record Promised (K : Pool) (r : Rack t1) : Type 0 where
+  pub shares : Demand3 K t1 r
+  pub slots : (i : ℕ) → i < K .holders → r i ≡ empty → (cs : List (Call t1)) → Slot K r i cs
