@@ -21,9 +21,8 @@ use Rattle.slot.specs.declared.parts.Last.{Last}
 use Rattle.slot.specs.declared.parts.Talk.{Talk}
 use Rattle.slot.specs.declared.parts.Slot.{Slot}
 use Rattle.slot.specs.declared.parts.Slot.the-variants.{Empty, Greeting, Ready, Busy, Done, Ended}
-use Rattle.slot.specs.Sending.{isMore}
-use Rattle.slot.specs.Fit.{lineFits, cutFits, lastFits, countsFit, turnFits, talkFits, fits}
-use Rattle.slot.specs.Safe.{LineSafe, Within, Nibble, Safe, SlotSafe}
+use Rattle.slot.specs.Blocks.{isMore}
+use Rattle.slot.specs.Fit.{lineFits, cutFits, lastFits, turnFits, inRange, stepsFit, talkFits, fits, CutIn, InRange}
 use Rattle.slot.specs.View.{lineOf, iOf, lastOf, talkOf, stateOf, KeptFor}
 
 -- ---- a range
@@ -58,22 +57,9 @@ line-fits l k =
       le-leb (l .r) 1 (k .r),
     )
 
-kept-safe : (l : Line) → LineKept (lineOf l) → LineSafe l
-kept-safe l k = record { s = k .s; r = k .r; bwt = k .bwt }
-
-pub line-safe : (l : Line) → lineFits l ≡ true → LineSafe l
-line-safe l e = kept-safe l (line-fit l e)
-
 -- ---- a cut
 
-pub record CutKept (c : Cut) : Type 0 where
-  pub least : 4 ≤ c .whole
-  pub most : c .whole ≤ 261
-  pub some : 1 ≤ c .len
-  pub few : c .len ≤ 254
-  pub ends : c .from + c .len ≤ c .whole
-
-pub cut-kept : (c : Cut) → cutFits c ≡ true → CutKept c
+pub cut-kept : (c : Cut) → cutFits c ≡ true → CutIn c
 unfolding cutFits
 cut-kept c e =
     let e1 = and-right (between 4 (c .whole) 261) _ e in
@@ -84,7 +70,7 @@ cut-kept c e =
     let rest : c .len ≤ c .whole - c .from = leb-true (c .len) (c .whole - c .from) (and-right (between 1 (c .len) 254) _ e2) in
     record { least = whole .0; most = whole .1; some = len .0; few = len .1; ends = omega arith }
 
-cut-fits : (c : Cut) → CutKept c → cutFits c ≡ true
+cut-fits : (c : Cut) → CutIn c → cutFits c ≡ true
 unfolding cutFits
 cut-fits c k =
     let from : c .from ≤ c .whole = omega (arith, k .ends) in
@@ -98,32 +84,15 @@ cut-fits c k =
       le-leb (c .len) (c .whole - c .from) rest,
     )
 
-pub cut-within : (c : Cut) → cutFits c ≡ true → Within c
-cut-within c e = let k = cut-kept c e in record { ends = k .ends; whole = k .most }
-
 -- ---- a command under way
 
--- the numbers' facts, all that is tested
-pub record TalkFit (t : Talk) (n : ℕ) : Type 0 where
-  pub line : LineKept (lineOf (t .line))
-  pub cut : CutKept (t .cut)
-  pub last : lastFits (t .turn .last) (t .acked) ≡ true
-  pub first : 1 ≤ t .turn .go
-  pub third : t .turn .go ≤ 3
-  pub over : not (t .acked && isMore (t .cut)) ≡ true
-  pub requests : t .turn .requests ≤ 255
-  pub held : n ≤ 96
-  pub sent : t .turn .sent + 3 * ((t .cut .whole - (t .cut .from + t .cut .len) + 15) / 16) ≤ 3 * (16 + n + t .turn .requests) + t .turn .go
-
-pub talk-fit : (t : Talk) (held : ℕ) → talkFits t held ≡ true → TalkFit t held
-unfolding talkFits turnFits countsFit
-talk-fit t held e =
+pub in-range : (t : Talk) → inRange t ≡ true → InRange t
+unfolding inRange turnFits
+in-range t e =
     let e1 = and-right (lineFits (t .line)) _ e in
     let e2 = and-right (cutFits (t .cut)) _ e1 in
     let e3 = and-right (lastFits (t .turn .last) (t .acked)) _ e2 in
     let e4 = and-right (between 1 (t .turn .go) 3) _ e3 in
-    let e5 = and-right (not (t .acked && isMore (t .cut))) _ e4 in
-    let e6 = and-right (leb (t .turn .requests) 255) _ e5 in
     let go = range 1 (t .turn .go) 3 (and-left _ _ e3) in
     record {
       line = line-fit (t .line) (and-left _ _ e);
@@ -131,50 +100,45 @@ talk-fit t held e =
       last = and-left _ _ e2;
       first = go .0;
       third = go .1;
-      over = and-left _ _ e4;
-      requests = leb-true (t .turn .requests) 255 (and-left _ _ e5);
-      held = leb-true held 96 (and-left _ _ e6);
-      sent = leb-true _ _ (and-right (leb held 96) _ e6);
+      requests = leb-true (t .turn .requests) 255 (and-left _ _ e4);
+      sent = leb-true (t .turn .sent) 1104 (and-right (leb (t .turn .requests) 255) _ e4);
     }
 
-fit-talk : (t : Talk) (held : ℕ) → TalkFit t held → talkFits t held ≡ true
-unfolding talkFits turnFits countsFit
-fit-talk t held f =
+range-in : (t : Talk) → InRange t → inRange t ≡ true
+unfolding inRange turnFits
+range-in t f =
     rw (
       line-fits (t .line) (f .line),
       cut-fits (t .cut) (f .cut),
       f .last,
       le-leb 1 (t .turn .go) (f .first),
       le-leb (t .turn .go) 3 (f .third),
-      f .over,
       le-leb (t .turn .requests) 255 (f .requests),
-      le-leb held 96 (f .held),
+      le-leb (t .turn .sent) 1104 (f .sent),
     )
-    (le-leb _ _ (f .sent))
 
--- ---- what the code asks
+-- all that is tested, as facts
+pub record TalkFit (t : Talk) (n : ℕ) : Type 0 where
+  pub range : InRange t
+  pub over : not (t .acked && isMore (t .cut)) ≡ true
+  pub held : n ≤ 96
+  pub steps : t .turn .sent + 3 * ((t .cut .whole - (t .cut .from + t .cut .len) + 15) / 16) ≤ 3 * (16 + n + t .turn .requests) + t .turn .go
 
-nibble-safe : (l : Last) (acked : Bool) → lastFits l acked ≡ true → Nibble l
-unfolding lastFits
-nibble-safe last.the-variants.I acked e = tt
-nibble-safe (last.the-variants.R n) acked e = leb-true n 2 e
-nibble-safe (last.the-variants.S pcb byte) acked e = tt
+pub talk-fit : (t : Talk) (held : ℕ) → talkFits t held ≡ true → TalkFit t held
+unfolding talkFits stepsFit
+talk-fit t held e =
+    let e1 = and-right (inRange t) _ e in
+    let e2 = and-right (not (t .acked && isMore (t .cut))) _ e1 in
+    record {
+      range = in-range t (and-left _ _ e);
+      over = and-left _ _ e1;
+      held = leb-true held 96 (and-left _ _ e2);
+      steps = leb-true _ _ (and-right (leb held 96) _ e2);
+    }
 
-talk-safe : (t : Talk) (held : ℕ) → TalkFit t held → Safe t
-talk-safe t held f = record {
-  numbers = record { line = kept-safe (t .line) (f .line); sent = omega (arith, f .sent, f .requests, f .held, f .third) };
-  cut = record { ends = f .cut .ends; whole = f .cut .most };
-  nibble = nibble-safe (t .turn .last) (t .acked) (f .last);
-}
-
-pub fit-safe : (x : Slot) (held : ℕ) → fits x held ≡ true → SlotSafe x
-unfolding fits
-fit-safe Empty held e = tt
-fit-safe (Greeting l sent) held e = tt
-fit-safe (Ready l) held e = tt
-fit-safe (Busy t) held e = talk-safe t held (talk-fit t held e)
-fit-safe (Done l) held e = tt
-fit-safe Ended held e = tt
+fit-talk : (t : Talk) (held : ℕ) → TalkFit t held → talkFits t held ≡ true
+unfolding talkFits stepsFit
+fit-talk t held f = rw (range-in t (f .range), f .over, le-leb held 96 (f .held)) (le-leb _ _ (f .steps))
 
 -- ---- the paper's invariant
 
@@ -210,7 +174,7 @@ module _ (t : Talk) (command : List ℕ) (got : List (List ℕ)) (whole : length
   abbrev Stands : Block → Type 0
   Stands b = Standing b (talkOf t command got)
 
-  i-stands : CutKept (t .cut) → Stands (iOf t command)
+  i-stands : CutIn (t .cut) → Stands (iOf t command)
   i-stands c =
       let long : length (window command (t .cut .from) (t .cut .len)) ≡ t .cut .len =
       length-window command (t .cut .from) (t .cut .len) (omega (arith, c .ends)) in (
@@ -238,18 +202,18 @@ module _ (t : Talk) (command : List ℕ) (got : List (List ℕ)) (whole : length
 
   talk-kept : TalkFit t (length got) → TalkKept (talkOf t command got)
   talk-kept f = record {
-    line = f .line;
-    least = omega (arith, f .cut .least);
-    most = omega (arith, f .cut .most);
+    line = f .range .line;
+    least = omega (arith, f .range .cut .least);
+    most = omega (arith, f .range .cut .most);
     standing =
         cond-case Stands (t .acked)
         (λ a. (refl, (refl, nothing-left (sym (and-true (t .acked) (isMore (t .cut)) a) ∙ not-true _ (f .over)))))
-        (λ _. i-stands (f .cut));
-    last = last-kept (t .turn .last) (f .last);
-    first = f .first;
-    third = f .third;
-    requests = f .requests;
-    sent = omega (arith, left, f .sent);
+        (λ _. i-stands (f .range .cut));
+    last = last-kept (t .turn .last) (f .range .last);
+    first = f .range .first;
+    third = f .range .third;
+    requests = f .range .requests;
+    sent = omega (arith, left, f .steps);
   }
 
   -- ---- and back
@@ -268,18 +232,24 @@ module _ (t : Talk) (command : List ℕ) (got : List (List ℕ)) (whole : length
   over true p = ap not (le-ltb upTo (t .cut .whole) (omega (arith, left, ap (length {A = ℕ}) (p .1 .1))))
   over false p = refl
 
-  talk-fits : CutKept (t .cut) → length got ≤ 96 → TalkKept (talkOf t command got) → TalkFit t (length got)
-  talk-fits c h k = record {
-    line = k .line;
-    cut = c;
-    last = last-fits (t .turn .last) (k .last);
-    first = k .first;
-    third = k .third;
-    over = over (t .acked) (k .standing);
-    requests = k .requests;
-    held = h;
-    sent = omega (arith, left, k .sent);
-  }
+  talk-fits : CutIn (t .cut) → length got ≤ 96 → TalkKept (talkOf t command got) → TalkFit t (length got)
+  talk-fits c h k =
+      let steps : t .turn .sent + 3 * ((t .cut .whole - upTo + 15) / 16) ≤ 3 * (16 + length got + t .turn .requests) + t .turn .go =
+      omega (arith, left, k .sent) in
+      record {
+        range = record {
+          line = k .line;
+          cut = c;
+          last = last-fits (t .turn .last) (k .last);
+          first = k .first;
+          third = k .third;
+          requests = k .requests;
+          sent = omega (arith, steps, k .third, k .requests);
+        };
+        over = over (t .acked) (k .standing);
+        held = h;
+        steps = steps;
+      }
 
 -- ---- the slot
 
@@ -301,7 +271,7 @@ abbrev pub Frame : Slot → (command : List ℕ) → (held : ℕ) → Type 0
 Frame Empty command held = held ≡ 0
 Frame (Greeting l sent) command held = held ≡ 0
 Frame (Ready l) command held = held ≡ 0
-Frame (Busy t) command held = (length command ≡ t .cut .whole) × CutKept (t .cut) × (held ≤ 96)
+Frame (Busy t) command held = (length command ≡ t .cut .whole) × CutIn (t .cut) × (held ≤ 96)
 Frame (Done l) command held = Unit
 Frame Ended command held = held ≡ 0
 
@@ -310,7 +280,7 @@ unfolding fits
 fit-frame Empty command held w e = eqb-true held 0 e
 fit-frame (Greeting l sent) command held w e = eqb-true held 0 (and-left _ _ e)
 fit-frame (Ready l) command held w e = eqb-true held 0 (and-left _ _ e)
-fit-frame (Busy t) command held w e = let f = talk-fit t held e in (w, f .cut, f .held)
+fit-frame (Busy t) command held w e = let f = talk-fit t held e in (w, f .range .cut, f .held)
 fit-frame (Done l) command held w e = tt
 fit-frame Ended command held w e = eqb-true held 0 e
 

@@ -1,7 +1,3 @@
--- Laws of a slot's numbers: what the code's proofs cite, and that the slot shows the paper's session.
+-- Laws of a slot's numbers: the tests and their facts, and the block that is built.
 pub mod FitLaws
-pub mod SafeLaws
-pub mod ViewLaws
-pub mod PoolLaws
-pub mod EventLaws
-pub mod ShowsLaws
+pub mod BlockLaws

@@ -1,8 +1,4 @@
--- A slot's numbers, and what each call makes of them.
-pub mod Sending
-pub mod Rows
-pub mod Fit
-pub mod Safe
-pub mod Calls
+-- A slot's numbers: the block to send, what they show, and when they fit.
+pub mod Blocks
 pub mod View
-pub mod Shows
+pub mod Fit

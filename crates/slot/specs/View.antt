@@ -2,10 +2,9 @@
 use Prim.Native.Nat.{ℕ, _+_}
 use mathlib.Core.Path.{_≡_}
 use mathlib.Core.Bool.{Bool, true, false, cond}
-use mathlib.Core.List.{List, []}
+use mathlib.Core.List.{List}
 use lib.ListN.{length, drop}
 use Rattle.lent.specs.Place.{window}
-use Rattle.block.specs.Block.{blockOf}
 use Rattle.atr.specs.declared.report.Report.{Report}
 use Rattle.session.specs.Slot as paper
 use Rattle.session.specs.Slot.{Block, iBlock, rBlock, sResponse, State, empty, greeting, ready, busy, done, ended}
@@ -16,9 +15,8 @@ use Rattle.slot.specs.declared.parts.Last.{Last}
 use Rattle.slot.specs.declared.parts.Talk.{Talk}
 use Rattle.slot.specs.declared.parts.Slot.{Slot}
 use Rattle.slot.specs.declared.parts.Slot.the-variants.{Empty, Greeting, Ready, Busy, Done, Ended}
-use Rattle.slot.specs.declared.parts.Send.{Send}
 use Rattle.slot.specs.declared.parts.Next.{Next}
-use Rattle.slot.specs.Sending.{isMore, isSent, pcbIn, infIn}
+use Rattle.slot.specs.Blocks.{isMore, bytesOf}
 
 -- ---- the slot
 
@@ -86,10 +84,6 @@ listens (Done l) = false
 listens Ended = false
 
 -- ---- what a call gives
-
--- the bytes of the block to send
-unfoldable pub bytesOf : Send → (command : List ℕ) → List ℕ
-bytesOf b command = cond (isSent b) (blockOf (pcbIn b) (infIn b command)) []
 
 -- the answer, as the paper has it
 abbrev pub saidBy : Next → (command : List ℕ) → Report → Answer

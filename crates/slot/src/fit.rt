@@ -1,16 +1,15 @@
-// Whether a slot's numbers can be what calls leave. The layers above keep only such slots, and ask for no other.
+// Whether a slot's numbers can be what calls leave.
 ghost use mathlib.Core.Path.{_≡_};
-ghost use Prim.Native.Nat.{_≤_};
-ghost use Rattle.slot.specs.Fit.{lineFits, cutFits, lastFits, countsFit, turnFits, talkFits, fits};
-ghost use Rattle.slot.specs.Safe.{Within};
+ghost use Rattle.slot.specs.Fit.{lineFits, cutFits, lastFits, turnFits, inRange, stepsFit, talkFits, fits, InRange};
 use super::parts::Cut;
 use super::parts::Last;
 use super::parts::Line;
 use super::parts::Slot;
 use super::parts::Talk;
+use super::parts::Turn;
 
 // IFSC 16 to 254, BWT at most what an ATR can ask for, numbers 0 or 1.
-pub(crate) fn is_line_fit(l: Line) -> bool
+pub fn is_line_fit(l: Line) -> bool
     ensures { λ b. ⌜ b ≡ lineFits l ⌝ }
 {
     if l.ifsc < 16 {
@@ -61,45 +60,25 @@ fn is_last_fit(last: Last, acked: bool) -> bool
     }
 }
 
-// The blocks sent are no more than the goes of those that started at go 1, with those that are still to come.
-fn are_counts_fit(t: Talk, held: u8) -> bool
-    requires { ⌜ Within (t .cut) ⌝ }
-    ensures { λ b. ⌜ b ≡ countsFit t held ⌝ }
+// Goes 1 to 3, at most 255 requests, at most 3 × (272 + 96) blocks.
+fn is_turn_fit(u: Turn) -> bool
+    ensures { λ b. ⌜ b ≡ turnFits u ⌝ }
 {
-    if 255 < t.turn.requests {
+    if u.go < 1 {
         return false;
     }
-    if 96 < held {
+    if 3 < u.go {
         return false;
     }
-    let blocks = (t.cut.whole - (t.cut.from + t.cut.len) + 15) / 16;
-    let started = 16 + (held as usize) + (t.turn.requests as usize);
-    (t.turn.sent as usize) + 3 * blocks <= 3 * started + (t.turn.go as usize)
+    if 255 < u.requests {
+        return false;
+    }
+    u.sent <= 1104
 }
 
-// Goes 1 to 3; where an R stands, nothing of the command is left.
-fn is_turn_fit(t: Talk, held: u8) -> bool
-    requires { ⌜ Within (t .cut) ⌝ }
-    ensures { λ b. ⌜ b ≡ turnFits t held ⌝ }
-{
-    if t.turn.go < 1 {
-        return false;
-    }
-    if 3 < t.turn.go {
-        return false;
-    }
-    let cut = t.cut;
-    if t.acked {
-        if super::cutting::is_more(cut) {
-            return false;
-        }
-        return are_counts_fit(t, held);
-    }
-    are_counts_fit(t, held)
-}
-
-pub(crate) fn is_talk_fit(t: Talk, held: u8) -> bool
-    ensures { λ b. ⌜ b ≡ talkFits t held ⌝ }
+// Whether each number of a talk lies in its range.
+pub fn is_in_range(t: Talk) -> bool
+    ensures { λ b. ⌜ b ≡ inRange t ⌝ }
 {
     let line = t.line;
     let cut = t.cut;
@@ -108,11 +87,40 @@ pub(crate) fn is_talk_fit(t: Talk, held: u8) -> bool
     if is_line_fit(line) {
         if is_cut_fit(cut) {
             if is_last_fit(last, t.acked) {
-                return is_turn_fit(t, held);
+                return is_turn_fit(turn);
             }
             return false;
         }
         return false;
+    }
+    false
+}
+
+// The blocks sent are no more than the goes of those that started at go 1, with those that are still to come.
+fn are_steps_fit(t: Talk, held: u8) -> bool
+    requires { ⌜ InRange t ⌝ }
+    ensures { λ b. ⌜ b ≡ stepsFit t held ⌝ }
+{
+    if 96 < held {
+        return false;
+    }
+    let blocks = (t.cut.whole - (t.cut.from + t.cut.len) + 15) / 16;
+    let started = 16 + (held as usize) + (t.turn.requests as usize);
+    (t.turn.sent as usize) + 3 * blocks <= 3 * started + (t.turn.go as usize)
+}
+
+// The ranges; where an R stands, nothing of the command is left; and the blocks sent.
+fn is_talk_fit(t: Talk, held: u8) -> bool
+    ensures { λ b. ⌜ b ≡ talkFits t held ⌝ }
+{
+    if is_in_range(t) {
+        if t.acked {
+            if t.cut.from + t.cut.len < t.cut.whole {
+                return false;
+            }
+            return are_steps_fit(t, held);
+        }
+        return are_steps_fit(t, held);
     }
     false
 }

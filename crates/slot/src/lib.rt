@@ -1,20 +1,14 @@
-// A slot at work: its numbers, by value, and what each call makes of them. An event reads its block, asks the pool where
-// an I-block is due, and gives the next slot and what to send. What it does is the session of the crate `session`:
-// specs/Shows says so.
-mod calls;
-mod cutting;
+// A slot's numbers, by value: its parts, when they fit what calls can leave, the form of a command, and the block to send.
+// What they show of the paper's session is in specs/View.
+mod building;
 mod fit;
 mod form;
 mod parts;
-mod rows;
-mod sending;
 
-pub use calls::attach;
-pub use calls::collect;
-pub use calls::command;
-pub use calls::event;
-pub use calls::remove;
+pub use building::send;
 pub use fit::is_fit;
+pub use fit::is_in_range;
+pub use fit::is_line_fit;
 pub use form::is_command;
 pub use parts::Cut;
 pub use parts::Last;
@@ -24,4 +18,3 @@ pub use parts::Send;
 pub use parts::Slot;
 pub use parts::Talk;
 pub use parts::Turn;
-pub use sending::send;

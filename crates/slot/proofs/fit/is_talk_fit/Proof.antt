@@ -1,48 +1,50 @@
--- `slot::fit::is_talk_fit`: part by part. Assumes nothing.
+-- `slot::fit::is_talk_fit`: the ranges, what stands, the blocks. Assumes nothing.
 use borrow.Author.Needs.{needs}
 use Rattle.slot.proofs.fit.is_talk_fit.Statement.{statement}
 use Rattle.slot.proofs.fit.is_talk_fit.Tie as tie
 use Rattle.slot.specs.Fit.{talkFits}
-use Rattle.slot.proofs.FitLaws.{cut-within}
+use Rattle.slot.proofs.FitLaws.{in-range}
 use mathlib.Core.Path.{sym, _∙_}
+use native.Mathlib.Omega.{arith}
+use borrow.Author.Tests.{lt-ltb, le-ltb}
 
-is-line-fit-requires : tie.Need-is-line-fit-requires
-is-line-fit-requires c κs = search needs
+is-in-range-requires : tie.Need-is-in-range-requires
+is-in-range-requires c κs = search needs
 
-is-cut-fit-requires : tie.Need-is-cut-fit-requires
-is-cut-fit-requires c κs = search needs
-
-is-last-fit-requires : tie.Need-is-last-fit-requires
-is-last-fit-requires c κs = search needs
-
-is-turn-fit-requires : tie.Need-is-turn-fit-requires
-is-turn-fit-requires c κs = cut-within (c .before .before .before .before .before .before .before .before .before .args .t .cut) (sym (c .before .before .before .is-cut-fit .ensures) ∙ c .before .before .if2 .taken)
+add-if3 : tie.Need-add-if3
+add-if3 c = let f = in-range (c .before .before .before .before .args .t) (sym (c .before .before .before .is-in-range .ensures) ∙ c .before .before .if1 .taken) in omega (arith, f .cut .ends, f .cut .most)
 
 returns : tie.Need-returns
 unfolding talkFits
-returns c = c .is-turn-fit .ensures ∙ sym (simp (sym (c .before .before .before .before .before .before .is-line-fit .ensures) ∙ c .before .before .before .before .before .if1 .taken, sym (c .before .before .before .before .is-cut-fit .ensures) ∙ c .before .before .before .if2 .taken, sym (c .before .before .is-last-fit .ensures) ∙ c .before .if3 .taken))
+returns c = simp (sym (c .before .before .before .before .before .is-in-range .ensures) ∙ c .before .before .before .before .if1 .taken, c .before .before .before .if2 .taken, lt-ltb _ _ (c .if3 .taken))
+
+are-steps-fit-requires : tie.Need-are-steps-fit-requires
+are-steps-fit-requires c κs = in-range (c .before .before .before .before .before .before .args .t) (sym (c .before .before .before .before .before .is-in-range .ensures) ∙ c .before .before .before .before .if1 .taken)
 
 returns-2 : tie.Need-returns-2
 unfolding talkFits
-returns-2 c = simp (sym (c .before .before .before .before .before .is-line-fit .ensures) ∙ c .before .before .before .before .if1 .taken, sym (c .before .before .before .is-cut-fit .ensures) ∙ c .before .before .if2 .taken, sym (c .before .is-last-fit .ensures) ∙ c .if3 .left)
+returns-2 c = c .are-steps-fit .ensures ∙ sym (simp (sym (c .before .before .before .before .before .before .is-in-range .ensures) ∙ c .before .before .before .before .before .if1 .taken, c .before .before .before .before .if2 .taken, le-ltb _ _ (c .before .if3 .left)))
+
+are-steps-fit-requires-2 : tie.Need-are-steps-fit-requires-2
+are-steps-fit-requires-2 c κs = in-range (c .before .before .before .args .t) (sym (c .before .before .is-in-range .ensures) ∙ c .before .if1 .taken)
 
 returns-3 : tie.Need-returns-3
 unfolding talkFits
-returns-3 c = simp (sym (c .before .before .before .is-line-fit .ensures) ∙ c .before .before .if1 .taken, sym (c .before .is-cut-fit .ensures) ∙ c .if2 .left)
+returns-3 c = c .are-steps-fit2 .ensures ∙ sym (simp (sym (c .before .before .before .is-in-range .ensures) ∙ c .before .before .if1 .taken, c .before .if2 .left))
 
 returns-4 : tie.Need-returns-4
 unfolding talkFits
-returns-4 c = simp (sym (c .before .is-line-fit .ensures) ∙ c .if1 .left)
+returns-4 c = simp (sym (c .before .is-in-range .ensures) ∙ c .if1 .left)
 
 pub is-talk-fit-spec : {M : Type 1} → statement M
 is-talk-fit-spec =
     tie.close
     (tie.spec
-    is-line-fit-requires
-    is-cut-fit-requires
-    is-last-fit-requires
-    is-turn-fit-requires
+    is-in-range-requires
+    add-if3
     returns
+    are-steps-fit-requires
     returns-2
+    are-steps-fit-requires-2
     returns-3
     returns-4)

@@ -1,0 +1,1 @@
+-- Laws of the calls with the pool: they show the paper's session.

@@ -1,0 +1,31 @@
+-- `turn::rows::accept`: more to come, or the last. Assumes nothing.
+use borrow.Author.Needs.{needs}
+use Rattle.turn.proofs.rows.accept.Statement.{statement}
+use Rattle.turn.proofs.rows.accept.Tie as tie
+use Rattle.turn.specs.Rows.{accepted}
+use Rattle.turn.proofs.SafeLaws.{took-safe}
+
+take-requires : tie.Need-take-requires
+take-requires c κs = search needs
+
+send-ack-requires : tie.Need-send-ack-requires
+send-ack-requires c κs = took-safe (c .before .before .args .t) (c .take .result) (c .take .ensures) (c .before .before .pre)
+
+returns : tie.Need-returns
+unfolding accepted
+returns c = simp (c .send-ack .ensures, c .before .take .ensures, c .before .before .if1 .taken)
+
+take-requires-2 : tie.Need-take-requires-2
+take-requires-2 c κs = search needs
+
+complete-requires : tie.Need-complete-requires
+complete-requires c κs = search needs
+
+returns-2 : tie.Need-returns-2
+unfolding accepted
+returns-2 c = simp (c .complete .ensures, c .before .take2 .ensures, c .before .before .if1 .left)
+
+pub accept-spec : {M : Type 1} → statement M
+accept-spec =
+    tie.close
+    (tie.spec take-requires send-ack-requires returns take-requires-2 complete-requires returns-2)

@@ -1,0 +1,24 @@
+-- `turn::sending::greet_again`: once more, or the end. Assumes nothing.
+use borrow.Author.Needs.{needs}
+use Rattle.turn.proofs.sending.greet_again.Statement.{statement}
+use Rattle.turn.proofs.sending.greet_again.Tie as tie
+use mathlib.Core.Path.{sym, _∙_}
+use borrow.Author.Tests.{lt-ltb, le-ltb}
+
+add-t4 : tie.Need-add-t4
+add-t4 c = search needs
+
+add-t7 : tie.Need-add-t7
+add-t7 c = search needs
+
+returns : tie.Need-returns
+returns c = simp (lt-ltb _ _ (c .if1 .taken))
+
+end-requires : tie.Need-end-requires
+end-requires c κs = search needs
+
+returns-2 : tie.Need-returns-2
+returns-2 c = c .end .ensures ∙ sym (simp (le-ltb _ _ (c .before .if1 .left)))
+
+pub greet-again-spec : {M : Type 1} → statement M
+greet-again-spec = tie.close (tie.spec add-t4 add-t7 returns end-requires returns-2)

@@ -1,0 +1,5 @@
+-- What each call makes of a slot's numbers.
+pub mod Sending
+pub mod Rows
+pub mod Safe
+pub mod Calls
