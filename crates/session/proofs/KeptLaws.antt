@@ -273,7 +273,7 @@ attach-kept s (Taken rep) told k =
     (record { low = told .ifsc .0; high = told .ifsc .1; bwt = told .bwt .1; s = omega arith; r = omega arith }, (omega arith, omega arith))
 attach-kept s (Refused n) told k = k
 
-command-kept : (s : State) (bs : List ℕ) → FormFits bs → Kept s → RowKept (onCommand s bs)
+pub command-kept : (s : State) (bs : List ℕ) → FormFits bs → Kept s → RowKept (onCommand s bs)
 command-kept (ready l) bs f k = send-kept (unsent l bs) (first-unsent l bs k f)
 command-kept empty bs f k = k
 command-kept (greeting l n) bs f k = k
@@ -281,7 +281,7 @@ command-kept (busy t) bs f k = k
 command-kept (done l got) bs f k = k
 command-kept ended bs f k = k
 
-event-kept : (s : State) (e : Event) (inf : List ℕ) → Told e inf → Kept s → RowKept (onEvent s e inf)
+pub event-kept : (s : State) (e : Event) (inf : List ℕ) → Told e inf → Kept s → RowKept (onEvent s e inf)
 event-kept (greeting l n) e inf told k = greet-kept l n e (k .0) (k .1 .1)
 event-kept (busy t) e inf told k = busy-kept t k e inf told
 event-kept empty e inf told k = k

@@ -7,3 +7,4 @@ pub mod FormLaws
 pub mod KeptLaws
 pub mod BoundLaws
 pub mod PromiseLaws
+pub mod Vectors

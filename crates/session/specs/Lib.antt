@@ -8,3 +8,4 @@ pub mod Protocol
 pub mod History
 pub mod Kept
 pub mod Promise
+pub mod Vectors

@@ -1,3 +1,4 @@
 -- Laws of a slot's numbers: the tests and their facts, and the block that is built.
 pub mod FitLaws
 pub mod BlockLaws
+pub mod Settled

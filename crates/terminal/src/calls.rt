@@ -1,6 +1,7 @@
 // The calls on slot i, whose cells are in the region r of the pool.
 ghost use mathlib.Core.Path.{_≡_};
 ghost use Rattle.pool.specs.Calls.{appended, released, copied};
+ghost use Rattle.turn.specs.Sending.{rests};
 ghost use Rattle.terminal.specs.Calls.{greeted, dueOf, settledPool, eventOf, poolOf, collected, collectedPool, removed};
 use block::Event;
 use slot::Line;
@@ -30,7 +31,7 @@ fn settle(r: &mut [u8], i: usize, ending: u8)
     ensures { λ _. ⌜ now (r .exit) ≡ settledPool (now (r .entry)) i ending ⌝ }
 {
     if ending != 0 {
-        pool::release(r, i);
+        pool::release(r, i)
     }
 }
 
@@ -41,13 +42,35 @@ pub fn event(r: &mut [u8], i: usize, t: Talk, kind: u64, bytes: &[u8]) -> Next
 {
     let e = block::read(kind, bytes);
     if turn::asks_cell(t, e) {
-        let n = store(r, i, t, e, block::inf(e, bytes));
-        settle(r, i, n.ending);
-        return n;
+        let taken = store(r, i, t, e, block::inf(e, bytes));
+        settle(r, i, taken.ending);
+        return taken;
     }
     let n = turn::hear(t, e);
     settle(r, i, n.ending);
     n
+}
+
+// Nothing goes out.
+fn rest(slot: Slot) -> Next
+    ensures { λ n. ⌜ n ≡ rests slot 0 ⌝ }
+{
+    Next {
+        slot: slot,
+        send: Send::Nothing,
+        sent: 0,
+        wait: 0,
+        ending: 0,
+    }
+}
+
+// The cells free, and the slot as given.
+fn empty(r: &mut [u8], i: usize, slot: Slot) -> Next
+    ensures { λ n. ⌜ n ≡ rests slot 0 ⌝ }
+    ensures { λ _. ⌜ now (r .exit) ≡ released (now (r .entry)) i ⌝ }
+{
+    pool::release(r, i);
+    rest(slot)
 }
 
 // Collect, from a slot that is done: the response to the front of out, the cells free, the slot ready. Where out is
@@ -58,10 +81,9 @@ pub fn collect(r: &mut [u8], i: usize, line: Line, out: &mut [u8]) -> Next
     ensures { λ _. ⌜ now (out .exit) ≡ copied (now (r .entry)) i (now (out .entry)) ⌝ }
 {
     if pool::copy_out(r, i, out) {
-        pool::release(r, i);
-        return turn::rest(Slot::Ready { line: line }, 0);
+        return empty(r, i, Slot::Ready { line: line });
     }
-    turn::rest(Slot::Done { line: line }, 0)
+    rest(Slot::Done { line: line })
 }
 
 // Remove: the cells free, the slot empty.
@@ -69,6 +91,5 @@ pub fn remove(r: &mut [u8], i: usize) -> Next
     ensures { λ n. ⌜ n ≡ removed ⌝ }
     ensures { λ _. ⌜ now (r .exit) ≡ released (now (r .entry)) i ⌝ }
 {
-    pool::release(r, i);
-    turn::rest(Slot::Empty, 0)
+    empty(r, i, Slot::Empty)
 }

@@ -11,4 +11,3 @@ pub use calls::command;
 pub use calls::hear;
 pub use calls::take;
 pub use rows::greet;
-pub use sending::rest;

@@ -173,6 +173,14 @@ fn on_request(t: Talk, ifsc: u8, pcb: u8, byte: u8, wait: u32) -> Next
     super::sending::end(24, t.turn.sent)
 }
 
+// The wait that a card asks for: so many times BWT.
+fn multiplied(times: u8, bwt: u32) -> u32
+    requires { ⌜ bwt ≤ 15371 ⌝ }
+    ensures { λ n. ⌜ n ≡ times * bwt ⌝ }
+{
+    (times as u32) * bwt
+}
+
 // An event while busy that takes no cell.
 pub(crate) fn busy(t: Talk, e: Event) -> Next
     requires { ⌜ Safe t ⌝ }
@@ -187,7 +195,7 @@ pub(crate) fn busy(t: Talk, e: Event) -> Next
             t.line.ifsc,
             0xE3,
             times,
-            (times as u32) * t.line.bwt,
+            multiplied(times, t.line.bwt),
         ),
         Event::Abort => super::sending::end(22, t.turn.sent),
         Event::IfsResponse { size: _ } => super::sending::answer_invalid(t, 2),

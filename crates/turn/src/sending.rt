@@ -12,8 +12,8 @@ use slot::Slot;
 use slot::Talk;
 use slot::Turn;
 
-// Nothing goes out, and the slot is as given; so many blocks were sent.
-pub fn rest(slot: Slot, sent: u32) -> Next
+// Nothing goes out.
+pub(crate) fn rest(slot: Slot, sent: u32) -> Next
     ensures { λ n. ⌜ n ≡ rests slot sent ⌝ }
 {
     Next {

@@ -13,11 +13,8 @@ use lib.ListN.{length}
 copy-out-requires : tie.Need-copy-out-requires
 copy-out-requires c κs = search needs
 
-release-requires : tie.Need-release-requires
-release-requires c κs = search needs
-
-rest-requires : tie.Need-rest-requires
-rest-requires c κs = search needs
+empty-requires : tie.Need-empty-requires
+empty-requires c κs = search needs
 
 same-length : tie.Need-same-length
 same-length c = search needs
@@ -28,12 +25,12 @@ same-length-2 c = search needs
 returns : tie.Need-returns
 unfolding collected collectedPool
 returns c =
-    let a = c .before .before .before .before .before .before .before .before .before .before .before .before .before .args in
-    let w : within (now (a .out)) 0 (length (response (now (a .r)) (a .i))) ≡ true = sym (c .before .before .before .before .before .before .before .before .copy-out .ensures .0) ∙ c .before .before .before .before .before .if1 .taken in
-    (c .rest .ensures ∙ sym (rw w), (c .before .before .before .release .ensures ∙ sym (rw w), c .before .before .before .before .before .before .before .before .copy-out .ensures .1))
+    let a = c .before .before .before .before .before .before .before .before .before .before .before .before .args in
+    let w : within (now (a .out)) 0 (length (response (now (a .r)) (a .i))) ≡ true = sym (c .before .before .before .before .before .before .before .copy-out .ensures .0) ∙ c .before .before .before .before .if1 .taken in
+    (c .before .before .empty .ensures .0 ∙ sym (rw w), (c .before .before .empty .ensures .1 ∙ sym (rw w), c .before .before .before .before .before .before .before .copy-out .ensures .1))
 
-rest-requires-2 : tie.Need-rest-requires-2
-rest-requires-2 c κs = search needs
+rest-requires : tie.Need-rest-requires
+rest-requires c κs = search needs
 
 same-length-3 : tie.Need-same-length-3
 same-length-3 c = search needs
@@ -46,19 +43,18 @@ unfolding collected collectedPool
 returns-2 c =
     let a = c .before .before .before .before .before .before .before .before .before .args in
     let w : within (now (a .out)) 0 (length (response (now (a .r)) (a .i))) ≡ false = sym (c .before .before .before .before .copy-out .ensures .0) ∙ c .before .if1 .left in
-    (c .rest2 .ensures ∙ sym (rw w), (sym (rw w), c .before .before .before .before .copy-out .ensures .1))
+    (c .rest .ensures ∙ sym (rw w), (sym (rw w), c .before .before .before .before .copy-out .ensures .1))
 
 pub collect-spec : {M : Type 1} → statement M
 collect-spec =
     tie.close
     (tie.spec
     copy-out-requires
-    release-requires
-    rest-requires
+    empty-requires
     same-length
     same-length-2
     returns
-    rest-requires-2
+    rest-requires
     same-length-3
     same-length-4
     returns-2)

@@ -2,11 +2,8 @@
 use borrow.Author.Needs.{needs}
 use Rattle.turn.proofs.rows.busy.Statement.{statement}
 use Rattle.turn.proofs.rows.busy.Tie as tie
-use Rattle.turn.specs.Rows.{whileBusy}
-use native.Mathlib.Nat.{mul-le-mul}
-use Prim.Native.Nat.{_≤_}
-use mathlib.Core.Path.{sym, _∙_}
-use native.Mathlib.Omega.{arith}
+use Rattle.turn.specs.Rows.{onRequest, whileBusy}
+use mathlib.Core.Path.{sym, ap, _∙_}
 
 enum-told : tie.Need-enum-told
 enum-told c = search needs
@@ -29,13 +26,8 @@ on-request-requires c κs = search needs
 enum-known-e-3 : tie.Need-enum-known-e-3
 enum-known-e-3 c = search needs
 
-cast-on-request : tie.Need-cast-on-request
-cast-on-request c = search needs
-
-mul-on-request : tie.Need-mul-on-request
-mul-on-request c =
-    let n : c .before .before .e3 .given .0 .0 ≤ 255 = omega (arith, c .before .known-told3 .given) in
-    omega (arith, mul-le-mul n (c .before .before .before .before .pre .numbers .line .bwt))
+multiplied-requires : tie.Need-multiplied-requires
+multiplied-requires c κs = search needs
 
 on-request-requires-2 : tie.Need-on-request-requires-2
 on-request-requires-2 c κs = search needs
@@ -66,35 +58,35 @@ answer-invalid-requires-4 c κs = search needs
 
 returns : tie.Need-returns
 unfolding whileBusy
-returns c = c .answer-invalid .ensures ∙ sym (simp (c .before .enum-told .given .1))
+returns c = c .answer-invalid .ensures ∙ sym (rw (c .before .enum-told .given .1))
 
 returns-2 : tie.Need-returns-2
 unfolding whileBusy
-returns-2 c = c .on-r .ensures ∙ sym (simp (c .before .before .e .given .1))
+returns-2 c = c .on-r .ensures ∙ sym (rw (c .before .before .e .given .1))
 
 returns-3 : tie.Need-returns-3
 unfolding whileBusy
-returns-3 c = c .on-request .ensures ∙ sym (simp (c .before .before .e2 .given .1))
+returns-3 c = c .on-request .ensures ∙ sym (rw (c .before .before .e2 .given .1))
 
 returns-4 : tie.Need-returns-4
 unfolding whileBusy
-returns-4 c = c .on-request2 .ensures ∙ sym (simp (c .before .before .before .e3 .given .1))
+returns-4 c = c .on-request2 .ensures ∙ ap (onRequest (c .before .before .before .before .before .args .t) (c .before .before .before .before .before .args .t .line .ifsc) 0xE3 (c .before .before .before .e3 .given .0 .0)) (c .before .multiplied .ensures) ∙ sym (rw (c .before .before .before .e3 .given .1))
 
 returns-5 : tie.Need-returns-5
 unfolding whileBusy
-returns-5 c = c .end .ensures ∙ sym (simp (c .before .enum-told2 .given .1))
+returns-5 c = c .end .ensures ∙ sym (rw (c .before .enum-told2 .given .1))
 
 returns-6 : tie.Need-returns-6
 unfolding whileBusy
-returns-6 c = c .answer-invalid2 .ensures ∙ sym (simp (c .before .enum-told3 .given .1))
+returns-6 c = c .answer-invalid2 .ensures ∙ sym (rw (c .before .enum-told3 .given .1))
 
 returns-7 : tie.Need-returns-7
 unfolding whileBusy
-returns-7 c = c .answer-invalid3 .ensures ∙ sym (simp (c .before .enum-told4 .given .1))
+returns-7 c = c .answer-invalid3 .ensures ∙ sym (rw (c .before .enum-told4 .given .1))
 
 returns-8 : tie.Need-returns-8
 unfolding whileBusy
-returns-8 c = c .answer-invalid4 .ensures ∙ sym (simp (c .before .enum-told5 .given .1))
+returns-8 c = c .answer-invalid4 .ensures ∙ sym (rw (c .before .enum-told5 .given .1))
 
 pub busy-spec : {M : Type 1} → statement M
 busy-spec =
@@ -107,8 +99,7 @@ busy-spec =
     enum-known-e-2
     on-request-requires
     enum-known-e-3
-    cast-on-request
-    mul-on-request
+    multiplied-requires
     on-request-requires-2
     enum-told-2
     end-requires
