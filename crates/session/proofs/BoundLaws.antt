@@ -2,10 +2,9 @@
 use Prim.Native.Nat.{ℕ, _+_, _-_, _*_, _≤_, _<_}
 use mathlib.Core.Path.{_≡_, refl, sym, ap, _∙_, subst}
 use mathlib.Core.Bool.{Bool, true, false, cond, _&&_}
-use mathlib.Core.List.{List, [], _∷_, _++_}
+use mathlib.Core.List.{List, [], _∷_}
 use native.Mathlib.Omega.{arith}
-use lib.Dec.{ltb, eqb}
-use lib.ListN.{length}
+use lib.Dec.{eqb}
 use borrow.Author.Tests.{ne-eqb}
 use Rattle.lent.proofs.Cases.{cond-case}
 use Rattle.block.specs.Reader.{readOf, infRead}
@@ -15,14 +14,13 @@ use Rattle.atr.specs.declared.reader.Answer.{Answer as AtrAnswer}
 use Rattle.atr.specs.declared.reader.Answer.the-variants.{Refused, Taken}
 use Rattle.atr.specs.Answer.{answerOf, Told as AtrTold}
 use Rattle.atr.proofs.AnswerLaws.{answer-told}
-use Rattle.pool.specs.Contents.{join}
 use Rattle.shares.specs.Decide.{Row}
 use Rattle.shares.specs.Log.{Entry, takes, happened}
 use Rattle.session.specs.Slot.{Block, iBlock, rBlock, ifsRequest, sResponse, Line, Talk, State, empty, greeting, ready, busy, done, ended, stateNo, heldIn}
 use Rattle.session.specs.Call.{Input, attach, command, event, collect, remove, Answer, refuses}
 use Rattle.session.specs.Refusal.{refusal}
-use Rattle.session.specs.Sending.{Did, ends, again, greetAgain, inPlaceOf, invalid}
-use Rattle.session.specs.Session.{whileGreeting, sendNext, due, took, accepted, onR, onRequest, whileBusy}
+use Rattle.session.specs.Sending.{Did, ends, again, greetAgain, inPlaceOf, invalid, goLeft}
+use Rattle.session.specs.Session.{whileGreeting, sendNext, due, took, accepted, onR, onRequest, whileBusy, requestLeft, isOneByte}
 use Rattle.session.specs.Protocol.{onAttach, onCommand, onEvent, onCollect, does, row, t1}
 use Rattle.session.specs.History.{Past, taken, begins, since, backTo, events, stateIn, most}
 use Rattle.session.specs.Kept.{Kept}
@@ -113,7 +111,7 @@ module _ (c e : ℕ) (room : e + 1 ≤ most c) where
 
   module _ (l : Line) (n : ℕ) (p : n ≡ e + 1) where
     greet-again : Step (greetAgain l n)
-    greet-again = cond-case Step (ltb n 3) (λ _. (ap (λ j. j + 1) p, omega arith)) (λ _. over 21 n p)
+    greet-again = cond-case Step (goLeft n) (λ _. (ap (λ j. j + 1) p, omega arith)) (λ _. over 21 n p)
 
     greet-next : (v : Event) → Step (whileGreeting l n v)
     greet-next (IfsResponse v) = cond-case Step (eqb v 0xFE) (λ _. (room, omega arith)) (λ _. greet-again)
@@ -131,7 +129,7 @@ module _ (c e : ℕ) (room : e + 1 ≤ most c) where
     sent-next = (ap (λ n. n + 1) p, omega arith)
 
     again-next : (b : Block) → Step (again t b)
-    again-next b = cond-case Step (ltb (t .go) 3) (λ _. sent-next) (λ _. over 21 (t .sent) p)
+    again-next b = cond-case Step (goLeft (t .go)) (λ _. sent-next) (λ _. over 21 (t .sent) p)
 
     invalid-next : (nibble : ℕ) → Step (invalid t nibble)
     invalid-next nibble = go (t .last)
@@ -156,10 +154,10 @@ module _ (c e : ℕ) (room : e + 1 ≤ most c) where
     accepted-next : (inf : List ℕ) (more : Bool) → Step (accepted (took t inf) more)
     accepted-next inf more =
         cond-case Step more (λ _. sent-next)
-        (λ _. cond-case Step (eqb (length (join (t .got ++ (inf ∷ [])))) 1) (λ _. over 23 (t .sent) p) (λ _. (room, omega arith)))
+        (λ _. cond-case Step (isOneByte (took t inf)) (λ _. over 23 (t .sent) p) (λ _. (room, omega arith)))
 
     request-next : (ifsc : ℕ) (b : Block) (wait : ℕ) → Step (onRequest t ifsc b wait)
-    request-next ifsc b wait = cond-case Step (ltb (t .requests) 255) (λ _. sent-next) (λ _. over 24 (t .sent) p)
+    request-next ifsc b wait = cond-case Step (requestLeft (t .requests)) (λ _. sent-next) (λ _. over 24 (t .sent) p)
 
     busy-next : (v : Event) (inf : List ℕ) → StepRow (whileBusy t v inf)
     busy-next (I number more) inf = cond-case StepRow (due t number) (λ _. (accepted-next inf more, over 20 (t .sent) p)) (λ _. invalid-next 2)

@@ -6,7 +6,7 @@ use mathlib.Core.Bool.{Bool, true, false, cond, _&&_, false≢true}
 use mathlib.Core.List.{List, [], _∷_, _++_}
 use native.Mathlib.Omega.{arith}
 use borrow.Author.Tests.{eqb-true, eqb-false}
-use lib.Dec.{ltb, eqb}
+use lib.Dec.{eqb}
 use lib.ListN.{length, drop, length-append}
 use Rattle.lent.proofs.Cases.{cond-case, and-left}
 use Rattle.block.specs.Block.{headOf, blockOf}
@@ -23,8 +23,8 @@ use Rattle.shares.specs.Log.{Entry, takes, happened}
 use Rattle.session.specs.Slot.{Block, iBlock, rBlock, ifsRequest, sResponse, wire, Line, Talk, State, empty, greeting, ready, busy, done, ended, stateNo, heldIn}
 use Rattle.session.specs.Call.{Lent, Input, attach, command, event, collect, remove, Answer, refuses, says}
 use Rattle.session.specs.Refusal.{refusal}
-use Rattle.session.specs.Sending.{Did, sends, ends, sentAt, again, greetAgain, inPlaceOf}
-use Rattle.session.specs.Session.{whileGreeting, nextBlock, cut, unsent, due, took, stands, accepted, onR, counted, onRequest, now, whileBusy}
+use Rattle.session.specs.Sending.{Did, sends, ends, sentAt, again, greetAgain, inPlaceOf, goLeft}
+use Rattle.session.specs.Session.{whileGreeting, nextBlock, cut, unsent, due, took, stands, accepted, onR, counted, onRequest, now, whileBusy, requestLeft, isOneByte}
 use Rattle.session.specs.Protocol.{stays, onAttach, onCommand, onEvent, onCollect, removed, does, row, t1}
 use Rattle.session.specs.History.{Past, taken, isAttach, backTo, since, blockIn, blocks, infs, eventIn, stateIn, counts, sentBy, heldBy, Delivers, numberOf, iNumber, inTurn, Onward}
 use Rattle.session.proofs.LawfulLaws.{either}
@@ -193,7 +193,7 @@ module _ (l : Lent) (k : ℕ) (bs : List ℕ) (h : Past) where
 
   again-fine : (t : Talk) (b : Block) → At false t → Fine false (again t b)
   again-fine t b a =
-      either (Fine false) (ltb (t .go) 3) (sends-fine false t b (t .go + 1) (t .line .bwt) a) (talk-ends false t 21 a)
+      either (Fine false) (goLeft (t .go)) (sends-fine false t b (t .go + 1) (t .line .bwt) a) (talk-ends false t 21 a)
 
   invalid-fine : (last : Block) (t : Talk) (nibble : ℕ) → At false t → Fine false (inPlaceOf last t nibble)
   invalid-fine (iBlock number more inf) t nibble a = again-fine t (rBlock (t .line .r) nibble) a
@@ -215,7 +215,7 @@ module _ (l : Lent) (k : ℕ) (bs : List ℕ) (h : Past) where
   accepted-fine t more a =
       let r = rBlock (t .line .r) 0 in
       either (Fine true) more (sends-fine true (stands t r) r 1 (t .line .bwt) a)
-      (either (Fine true) (eqb (length (join (t .got))) 1) (talk-ends true t 23 a)
+      (either (Fine true) (isOneByte t) (talk-ends true t 23 a)
       (event-fine true (done (t .line) (t .got)) 0 (t .sent) 0 zeros []
       (a .sent-so ∙ omega arith) tt (a .got-so) (a .turn-so) (a .number-so) (λ _. inr (inl refl))))
 
@@ -230,7 +230,7 @@ module _ (l : Lent) (k : ℕ) (bs : List ℕ) (h : Past) where
 
   request-fine : (t : Talk) (ifsc : ℕ) (b : Block) (wait : ℕ) → At false t → Fine false (onRequest t ifsc b wait)
   request-fine t ifsc b wait a =
-      either (Fine false) (ltb (t .requests) 255) (sends-fine false (counted t ifsc) b 1 wait a) (talk-ends false t 24 a)
+      either (Fine false) (requestLeft (t .requests)) (sends-fine false (counted t ifsc) b 1 wait a) (talk-ends false t 24 a)
 
   busy-good : (t : Talk) (e : Event) → readOf k bs ≡ e → At false t → Good (event l k bs) h (whileBusy t e (infRead k bs))
   busy-good t (I number more) q a =
@@ -254,7 +254,7 @@ module _ (l : Lent) (k : ℕ) (bs : List ℕ) (h : Past) where
 
     greet-again : Fine false (greetAgain m n)
     greet-again =
-        either (Fine false) (ltb n 3)
+        either (Fine false) (goLeft n)
         (event-fine false (greeting m (n + 1)) 0 (n + 1) (m .bwt) zeros (wire ifsRequest)
         (rw (one-block (event l k bs) ifsRequest refl) (ap (λ j. j + 1) (v .sent))) refl tt (v .turn) never
         not-busy)

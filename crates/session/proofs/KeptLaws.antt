@@ -17,13 +17,12 @@ use Rattle.atr.specs.declared.reader.Answer.{Answer as AtrAnswer}
 use Rattle.atr.specs.declared.reader.Answer.the-variants.{Refused, Taken}
 use Rattle.atr.specs.Answer.{answerOf, Told as AtrTold}
 use Rattle.atr.proofs.AnswerLaws.{answer-told}
-use Rattle.pool.specs.Contents.{join}
 use Rattle.shares.specs.Decide.{Row}
 use Rattle.session.specs.Slot.{Block, iBlock, rBlock, ifsRequest, sResponse, Line, Talk, State, empty, greeting, ready, busy, done, ended}
 use Rattle.session.specs.Call.{Input, attach, command, event, collect, remove, Answer}
 use Rattle.session.specs.Refusal.{refusal}
-use Rattle.session.specs.Sending.{Did, again, greetAgain, inPlaceOf, invalid}
-use Rattle.session.specs.Session.{whileGreeting, sendNext, unsent, awaits, due, took, accepted, onR, onRequest, whileBusy}
+use Rattle.session.specs.Sending.{Did, again, greetAgain, inPlaceOf, invalid, goLeft}
+use Rattle.session.specs.Session.{whileGreeting, sendNext, unsent, awaits, due, took, accepted, onR, onRequest, whileBusy, requestLeft, isOneByte}
 use Rattle.session.specs.Protocol.{onAttach, onCommand, onEvent, onCollect, does, row, t1}
 use Rattle.session.specs.Kept.{LineKept, Standing, Last, TalkKept, Kept}
 use Rattle.session.proofs.RowLaws.{RowAll, row-all}
@@ -80,7 +79,7 @@ module _ (t : Talk) (k : TalkKept t) where
 
   again-kept : (b : Block) → Last b t → DidKept (again t b)
   again-kept b l =
-      cond-case DidKept (ltb (t .go) 3)
+      cond-case DidKept (goLeft (t .go))
       (λ e.
       let g : t .go < 3 = ltb-true (t .go) 3 e in
       further-kept b (t .line .ifsc) (t .go + 1) (t .requests) l (k .line .low) (k .line .high)
@@ -89,7 +88,7 @@ module _ (t : Talk) (k : TalkKept t) where
 
   request-kept : (ifsc : ℕ) (b : Block) (wait : ℕ) → Last b t → 16 ≤ ifsc → ifsc ≤ 254 → DidKept (onRequest t ifsc b wait)
   request-kept ifsc b wait l low high =
-      cond-case DidKept (ltb (t .requests) 255)
+      cond-case DidKept (requestLeft (t .requests))
       (λ e.
       let g : t .requests < 255 = ltb-true (t .requests) 255 e in
       further-kept b ifsc 1 (t .requests + 1) l low high (omega arith) (omega arith) (omega arith) (omega (arith, k .third)))
@@ -227,7 +226,7 @@ module _ (t : Talk) (k : TalkKept t) where
         requests = k .requests;
         sent = omega (arith, k .sent, k .third);
       })
-      (λ _. cond-case DidKept (eqb (length (join (t .got ++ (inf ∷ [])))) 1) (λ _. tt) (λ _. flipped))
+      (λ _. cond-case DidKept (isOneByte (took t inf)) (λ _. tt) (λ _. flipped))
     where
       flipped : LineKept (took t inf .line)
       flipped = record { low = k .line .low; high = k .line .high; bwt = k .line .bwt; s = k .line .s; r = omega arith }
@@ -252,7 +251,7 @@ greet-kept l n e k third = go e
   where
     repeats : DidKept (greetAgain l n)
     repeats =
-        cond-case DidKept (ltb n 3)
+        cond-case DidKept (goLeft n)
         (λ q. let g : n < 3 = ltb-true n 3 q in (k, (omega arith, omega arith)))
         (λ _. tt)
 

@@ -4,7 +4,7 @@ use mathlib.Core.Path.{_≡_, _∙_}
 use mathlib.Core.Bool.{Bool, cond}
 use mathlib.Core.List.{List, [], _∷_, _++_}
 use native.Mathlib.Omega.{arith}
-use lib.Dec.{ltb, eqb}
+use lib.Dec.{eqb}
 use lib.ListN.{length, length-append}
 use Rattle.lent.proofs.Cases.{cond-case}
 use Rattle.block.specs.Reader.{readOf, infRead}
@@ -13,15 +13,14 @@ use Rattle.block.specs.declared.event.Event.the-variants.{I, R, IfsRequest, Ifs
 use Rattle.atr.specs.declared.reader.Answer.{Answer as AtrAnswer}
 use Rattle.atr.specs.declared.reader.Answer.the-variants.{Refused, Taken}
 use Rattle.atr.specs.Answer.{answerOf}
-use Rattle.pool.specs.Contents.{join}
 use Rattle.shares.specs.Rack.{Lawful}
 use Rattle.shares.specs.Decide.{Row, Fair}
 use Rattle.shares.proofs.DecideLaws.{decided-lawful}
 use Rattle.session.specs.Slot.{Block, iBlock, rBlock, ifsRequest, sResponse, Line, Talk, State, empty, greeting, ready, busy, done, ended, heldIn}
 use Rattle.session.specs.Call.{Input, attach, command, event, collect, remove, Answer, refuses}
 use Rattle.session.specs.Refusal.{refusal, noSlot}
-use Rattle.session.specs.Sending.{Did, again, greetAgain, inPlaceOf}
-use Rattle.session.specs.Session.{whileGreeting, due, took, accepted, onR, onRequest, whileBusy}
+use Rattle.session.specs.Sending.{Did, again, greetAgain, inPlaceOf, goLeft}
+use Rattle.session.specs.Session.{whileGreeting, due, took, accepted, onR, onRequest, whileBusy, requestLeft, isOneByte}
 use Rattle.session.specs.Protocol.{onAttach, onCommand, onEvent, onCollect, does, row, t1}
 
 -- what holds of both holds whichever a test picks
@@ -42,7 +41,7 @@ module _ (t : Talk) where
   NoMore d = AtMost (length (t .got)) d
 
   again-keeps : (b : Block) → NoMore (again t b)
-  again-keeps b = either NoMore (ltb (t .go) 3) (omega arith) (omega arith)
+  again-keeps b = either NoMore (goLeft (t .go)) (omega arith) (omega arith)
 
   invalid-keeps : (last : Block) (nibble : ℕ) → NoMore (inPlaceOf last t nibble)
   invalid-keeps (iBlock number more inf) nibble = again-keeps (rBlock (t .line .r) nibble)
@@ -59,13 +58,13 @@ module _ (t : Talk) where
   r-keeps (sResponse pcb n) number = invalid-keeps (t .last) 2
 
   request-keeps : (ifsc : ℕ) (b : Block) (wait : ℕ) → NoMore (onRequest t ifsc b wait)
-  request-keeps ifsc b wait = either NoMore (ltb (t .requests) 255) (omega arith) (omega arith)
+  request-keeps ifsc b wait = either NoMore (requestLeft (t .requests)) (omega arith) (omega arith)
 
   accepted-takes : (inf : List ℕ) (more : Bool) → AtMost (suc (length (t .got))) (accepted (took t inf) more)
   accepted-takes inf more =
       let e : length (t .got ++ (inf ∷ [])) ≡ suc (length (t .got)) = length-append (t .got) (inf ∷ []) ∙ omega arith in
       either (AtMost (suc (length (t .got)))) more (omega arith)
-      (either (AtMost (suc (length (t .got)))) (eqb (length (join (t .got ++ (inf ∷ [])))) 1) (omega arith) (omega arith))
+      (either (AtMost (suc (length (t .got)))) (isOneByte (took t inf)) (omega arith) (omega arith))
 
   busy-fair : (e : Event) (inf : List ℕ) → FairIn (busy t) (whileBusy t e inf)
   busy-fair (I number more) inf =
@@ -81,7 +80,7 @@ module _ (t : Talk) where
 -- ---- in any state
 
 greet-again : (l : Line) (n : ℕ) → AtMost 0 (greetAgain l n)
-greet-again l n = either (AtMost 0) (ltb n 3) (omega arith) (omega arith)
+greet-again l n = either (AtMost 0) (goLeft n) (omega arith) (omega arith)
 
 greet-fair : (l : Line) (n : ℕ) (e : Event) → AtMost 0 (whileGreeting l n e)
 greet-fair l n (IfsResponse v) = either (AtMost 0) (eqb v 0xFE) (omega arith) (greet-again l n)

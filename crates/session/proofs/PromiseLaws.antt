@@ -1,18 +1,16 @@
 -- What is promised of T=1 over a pool, along any run of the rack. Assumes nothing.
-use Prim.Native.Nat.{ℕ, _≤_, _<_}
+use Prim.Native.Nat.{ℕ, _<_}
 use mathlib.Core.Path.{_≡_, sym}
-use mathlib.Core.Bool.{Bool}
-use mathlib.Core.List.{List, [], _∷_}
+use mathlib.Core.List.{List, []}
 use native.Mathlib.Omega.{arith}
 use Rattle.shares.specs.Pool.{Pool, Fit, Sound}
-use Rattle.shares.specs.Rack.{Call, Rack, holds, run}
-use Rattle.shares.specs.Log.{Entry, logOn, takes, happened, Keeps}
+use Rattle.shares.specs.Rack.{Call, Rack, holds}
+use Rattle.shares.specs.Log.{Entry, takes, Keeps}
 use Rattle.shares.proofs.RunLaws.{sound-run}
-use Rattle.shares.proofs.DemandLaws.{demand3, fresh-demand3}
+use Rattle.shares.proofs.DemandLaws.{demand3}
 use Rattle.shares.proofs.LogLaws.{log-keeps}
 use Rattle.shares.proofs.GrantLaws.{fresh-sound}
-use Rattle.session.specs.Slot.{State, empty, stateNo, heldIn}
-use Rattle.session.specs.Call.{Input}
+use Rattle.session.specs.Slot.{State, empty}
 use Rattle.session.specs.Protocol.{t1}
 use Rattle.session.specs.History.{Past, since, backTo, events, Told, AllTold}
 use Rattle.session.specs.Kept.{Kept}

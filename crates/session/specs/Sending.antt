@@ -1,6 +1,6 @@
 -- "A session" of document 01: blocks sent, goes, the wait, endings, and invalid events.
 use Prim.Native.Nat.{ℕ, _+_}
-use mathlib.Core.Bool.{cond}
+use mathlib.Core.Bool.{Bool, cond}
 use mathlib.Core.List.{List, []}
 use lib.Dec.{ltb}
 use Rattle.atr.specs.declared.report.Report.{Report}
@@ -32,6 +32,10 @@ ends ending sent = record { state = ended; answer = says (stateNo ended) ending 
 abbrev pub sentAt : Talk → Block → (go : ℕ) → Talk
 sentAt t b go = record { line = t .line; command = t .command; left = t .left; standing = t .standing; last = b; go = go; requests = t .requests; got = t .got; sent = t .sent + 1 }
 
+-- go 4 would not be due yet
+abbrev pub goLeft : (go : ℕ) → Bool
+goLeft go = ltb go 3
+
 -- a newly sent block is go 1
 abbrev pub newly : Talk → Block → (wait : ℕ) → Did
 newly t b wait = sends (busy (sentAt t b 1)) b (t .sent + 1) wait zeros
@@ -39,14 +43,14 @@ newly t b wait = sends (busy (sentAt t b 1)) b (t .sent + 1) wait zeros
 -- each repeat, and each R in its place, is one go more; where go 4 would be due, end with 21
 abbrev pub again : Talk → Block → Did
 again t b =
-    cond (ltb (t .go) 3)
+    cond (goLeft (t .go))
     (sends (busy (sentAt t b (t .go + 1))) b (t .sent + 1) (t .line .bwt) zeros)
     (ends 21 (t .sent))
 
 -- while greeting: the IFS request is the only block sent, so that its go is the number of blocks sent
 abbrev pub greetAgain : Line → (sent : ℕ) → Did
 greetAgain l n =
-    cond (ltb n 3)
+    cond (goLeft n)
     (sends (greeting l (n + 1)) ifsRequest (n + 1) (l .bwt) zeros)
     (ends 21 n)
 

@@ -90,9 +90,13 @@ stands t b = record { line = t .line; command = t .command; left = t .left; stan
 abbrev pub acknowledge : Talk → Did
 acknowledge t = newly (stands t (rBlock (t .line .r) 0)) (rBlock (t .line .r) 0) (t .line .bwt)
 
+-- the response is 1 byte
+abbrev pub isOneByte : Talk → Bool
+isOneByte t = eqb (length (join (t .got))) 1
+
 -- no more: done, or end 23 if the response is 1 byte
 abbrev pub complete : Talk → Did
-complete t = cond (eqb (length (join (t .got))) 1) (ends 23 (t .sent)) (rests (done (t .line) (t .got)) (t .sent) [])
+complete t = cond (isOneByte t) (ends 23 (t .sent)) (rests (done (t .line) (t .got)) (t .sent) [])
 
 abbrev pub accepted : Talk → (more : Bool) → Did
 accepted t more = cond more (acknowledge t) (complete t)
@@ -135,9 +139,13 @@ counted t n = record {
   sent = t .sent;
 }
 
+-- the 256th is not due yet
+abbrev pub requestLeft : (requests : ℕ) → Bool
+requestLeft requests = ltb requests 255
+
 -- the 256th ends with 24
 abbrev pub onRequest : Talk → (ifsc : ℕ) → Block → (wait : ℕ) → Did
-onRequest t ifsc b wait = cond (ltb (t .requests) 255) (newly (counted t ifsc) b wait) (ends 24 (t .sent))
+onRequest t ifsc b wait = cond (requestLeft (t .requests)) (newly (counted t ifsc) b wait) (ends 24 (t .sent))
 
 -- ---- received while busy, row by row
 

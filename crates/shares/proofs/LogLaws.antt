@@ -7,7 +7,7 @@ use lib.Dec.{eqb}
 use borrow.Author.Tests.{lt-ltb, eqb-true, eqb-false}
 use Rattle.shares.specs.Pool.{Pool, Fit, Sound, granted}
 use Rattle.shares.specs.Rack.{Protocol, Lawful, Call, on, Rack, holds, gets, after, answerTo, run}
-use Rattle.shares.specs.Log.{Entry, called, logOn, takes, happened, Keeps}
+use Rattle.shares.specs.Log.{Entry, called, logOn, takes, Keeps}
 use Rattle.shares.proofs.RunLaws.{after-other, after-same, sound-after}
 
 module _ (K : Pool) (P : Protocol) (F : Fit K) (W : Lawful P) (i : ℕ) (l : i < K .holders) where

@@ -1,6 +1,6 @@
 -- What the private functions ask of a talk's numbers: numbers in their ranges have it, and it is kept by what is done to
 -- them. Assumes nothing.
-use Prim.Native.Nat.{ℕ, _+_, _-_, _≤_, min}
+use Prim.Native.Nat.{ℕ}
 use mathlib.Core.Path.{_≡_, sym, subst}
 use mathlib.Core.Bool.{Bool, true}
 use native.Mathlib.Omega.{arith}

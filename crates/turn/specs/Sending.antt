@@ -1,6 +1,6 @@
 -- On a slot's numbers: blocks sent, goes, endings, the command's I-blocks, and what is sent for an invalid event.
 use Prim.Native.Nat.{ℕ, _+_, _-_, min}
-use mathlib.Core.Bool.{Bool, true, false, cond}
+use mathlib.Core.Bool.{false, cond}
 use lib.Dec.{ltb}
 use Rattle.block.specs.Block.{iPcb, rPcb}
 use Rattle.slot.specs.declared.parts.Line.{Line}

@@ -1,6 +1,6 @@
 // The command's I-blocks: where the last was cut, and where the next will be.
 ghost use mathlib.Core.Path.{_≡_};
-ghost use Prim.Native.Nat.{_+_, _-_, _≤_, min};
+ghost use Prim.Native.Nat.{_-_, min};
 ghost use Rattle.slot.specs.Blocks.{isMore};
 ghost use Rattle.turn.specs.Sending.{lastI, nextCut, cutNext, sendNext, sayAgain};
 ghost use Rattle.turn.specs.Safe.{Numbers, Within};

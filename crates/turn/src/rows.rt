@@ -2,7 +2,7 @@
 ghost use mathlib.Core.Path.{_≡_};
 ghost use Prim.Native.Nat.{_+_, _*_, _≤_, _<_};
 ghost use Rattle.turn.specs.Rows.{isGreeted, isAbort, whileGreeting, due, acknowledge, completed, accepted, took, onR, counted, onRequest, whileBusy};
-ghost use Rattle.turn.specs.Safe.{Numbers, Nibble, Within, Safe};
+ghost use Rattle.turn.specs.Safe.{Numbers, Within, Safe};
 use block::Event;
 use slot::Last;
 use slot::Line;

@@ -1,7 +1,7 @@
 // Blocks sent, goes, endings, and what is sent for an invalid event.
 ghost use mathlib.Core.Path.{_≡_};
 ghost use Prim.Native.Nat.{_≤_, _<_};
-ghost use Rattle.block.specs.Block.{iPcb, rPcb};
+ghost use Rattle.block.specs.Block.{iPcb};
 ghost use Rattle.turn.specs.Sending.{rests, ends, sentAt, goesOut, newly, again, greetAgain, sendR, inPlace, invalid};
 ghost use Rattle.turn.specs.Safe.{Numbers, Nibble};
 use slot::Last;
