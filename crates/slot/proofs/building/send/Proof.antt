@@ -40,7 +40,7 @@ build-requires-3 c κs = search needs
 
 returns : tie.Need-returns
 unfolding sentLength sentOut
-returns c = (sym (simp (c .enum-told .given .1)), sym (simp (c .enum-told .given .1)))
+returns c = (sym (rw (c .enum-told .given .1)), sym (rw (c .enum-told .given .1)))
 
 same-length : tie.Need-same-length
 same-length c = search needs
@@ -49,8 +49,8 @@ returns-2 : tie.Need-returns-2
 unfolding sentLength sentOut
 returns-2 c =
     let out = now (c .before .before .before .before .before .before .before .before .before .before .args .out) in (
-      c .before .before .build .ensures .0 ∙ ap (builtLength out) (c .before .before .before .part .ensures) ∙ sym (simp (c .before .before .before .before .before .before .b .given .1)),
-      c .before .before .build .ensures .1 ∙ ap (builtOut out _) (c .before .before .before .part .ensures) ∙ sym (simp (c .before .before .before .before .before .before .b .given .1)),
+      c .before .before .build .ensures .0 ∙ ap (builtLength out) (c .before .before .before .part .ensures) ∙ sym (rw (c .before .before .before .before .before .before .b .given .1)),
+      c .before .before .build .ensures .1 ∙ ap (builtOut out _) (c .before .before .before .part .ensures) ∙ sym (rw (c .before .before .before .before .before .before .b .given .1)),
     )
 
 same-length-2 : tie.Need-same-length-2
@@ -60,8 +60,8 @@ returns-3 : tie.Need-returns-3
 unfolding sentLength sentOut window
 returns-3 c =
     let out = now (c .before .before .before .before .before .before .before .before .before .before .args .out) in (
-      c .before .before .build2 .ensures .0 ∙ ap (builtLength out) (c .before .before .before .part2 .ensures) ∙ sym (simp (c .before .before .before .before .before .before .b2 .given .1)),
-      c .before .before .build2 .ensures .1 ∙ ap (builtOut out _) (c .before .before .before .part2 .ensures) ∙ sym (simp (c .before .before .before .before .before .before .b2 .given .1)),
+      c .before .before .build2 .ensures .0 ∙ ap (builtLength out) (c .before .before .before .part2 .ensures) ∙ sym (rw (c .before .before .before .before .before .before .b2 .given .1)),
+      c .before .before .build2 .ensures .1 ∙ ap (builtOut out _) (c .before .before .before .part2 .ensures) ∙ sym (rw (c .before .before .before .before .before .before .b2 .given .1)),
     )
 
 same-length-3 : tie.Need-same-length-3
@@ -69,7 +69,7 @@ same-length-3 c = search needs
 
 returns-4 : tie.Need-returns-4
 unfolding sentLength sentOut
-returns-4 c = (c .before .before .build3 .ensures .0 ∙ sym (simp (c .before .before .before .before .before .before .b3 .given .1)), c .before .before .build3 .ensures .1 ∙ sym (simp (c .before .before .before .before .before .before .b3 .given .1)))
+returns-4 c = (c .before .before .build3 .ensures .0 ∙ sym (rw (c .before .before .before .before .before .before .b3 .given .1)), c .before .before .build3 .ensures .1 ∙ sym (rw (c .before .before .before .before .before .before .b3 .given .1)))
 
 pub send-spec : {M : Type 1} → statement M
 send-spec =

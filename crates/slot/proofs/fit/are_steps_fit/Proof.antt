@@ -8,7 +8,7 @@ use borrow.Author.Tests.{le-leb, lt-leb}
 
 returns : tie.Need-returns
 unfolding stepsFit
-returns c = simp (lt-leb _ _ (c .if1 .taken))
+returns c = sym (rw (lt-leb (c .before .args .held) 96 (c .if1 .taken)))
 
 add-blocks : tie.Need-add-blocks
 add-blocks c = search needs

@@ -7,23 +7,23 @@ use mathlib.Core.Path.{sym}
 
 returns : tie.Need-returns
 unfolding cutFits
-returns c = simp (lt-leb _ _ (c .if1 .taken))
+returns c = let k = c .before .before .args .c in sym (rw (lt-leb 4 (k .whole) (c .if1 .taken)))
 
 returns-2 : tie.Need-returns-2
 unfolding cutFits
-returns-2 c = simp (le-leb _ _ (c .before .before .if1 .left), lt-leb _ _ (c .if2 .taken))
+returns-2 c = let k = c .before .before .before .before .args .c in sym (rw (le-leb 4 (k .whole) (c .before .before .if1 .left), lt-leb (k .whole) 261 (c .if2 .taken)))
 
 returns-3 : tie.Need-returns-3
 unfolding cutFits
-returns-3 c = simp (le-leb _ _ (c .before .before .before .before .if1 .left), le-leb _ _ (c .before .before .if2 .left), lt-leb _ _ (c .if3 .taken))
+returns-3 c = let k = c .before .before .before .before .before .before .args .c in sym (rw (le-leb 4 (k .whole) (c .before .before .before .before .if1 .left), le-leb (k .whole) 261 (c .before .before .if2 .left), lt-leb (k .from) (k .whole) (c .if3 .taken)))
 
 returns-4 : tie.Need-returns-4
 unfolding cutFits
-returns-4 c = simp (le-leb _ _ (c .before .before .before .before .before .before .if1 .left), le-leb _ _ (c .before .before .before .before .if2 .left), le-leb _ _ (c .before .before .if3 .left), lt-leb _ _ (c .if4 .taken))
+returns-4 c = let k = c .before .before .before .before .before .before .before .before .args .c in sym (rw (le-leb 4 (k .whole) (c .before .before .before .before .before .before .if1 .left), le-leb (k .whole) 261 (c .before .before .before .before .if2 .left), le-leb (k .from) (k .whole) (c .before .before .if3 .left), lt-leb 1 (k .len) (c .if4 .taken)))
 
 returns-5 : tie.Need-returns-5
 unfolding cutFits
-returns-5 c = simp (le-leb _ _ (c .before .before .before .before .before .before .before .before .if1 .left), le-leb _ _ (c .before .before .before .before .before .before .if2 .left), le-leb _ _ (c .before .before .before .before .if3 .left), le-leb _ _ (c .before .before .if4 .left), lt-leb _ _ (c .if5 .taken))
+returns-5 c = let k = c .before .before .before .before .before .before .before .before .before .before .args .c in sym (rw (le-leb 4 (k .whole) (c .before .before .before .before .before .before .before .before .if1 .left), le-leb (k .whole) 261 (c .before .before .before .before .before .before .if2 .left), le-leb (k .from) (k .whole) (c .before .before .before .before .if3 .left), le-leb 1 (k .len) (c .before .before .if4 .left), lt-leb (k .len) 254 (c .if5 .taken)))
 
 returns-6 : tie.Need-returns-6
 unfolding cutFits

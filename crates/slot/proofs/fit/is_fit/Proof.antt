@@ -14,7 +14,7 @@ enum-known-x c = search needs
 
 returns : tie.Need-returns
 unfolding fits
-returns c = simp (c .before .before .x .given .1, ne-eqb _ _ (c .if1 .taken))
+returns c = sym (rw (c .before .before .x .given .1, ne-eqb (c .before .before .before .before .args .held) 0 (c .if1 .taken)))
 
 returns-2 : tie.Need-returns-2
 unfolding fits
@@ -32,7 +32,7 @@ enum-known-x-2 c = search needs
 
 returns-4 : tie.Need-returns-4
 unfolding fits
-returns-4 c = simp (c .before .before .x2 .given .1, ne-eqb _ _ (c .if4 .taken))
+returns-4 c = sym (rw (c .before .before .x2 .given .1, ne-eqb (c .before .before .before .before .args .held) 0 (c .if4 .taken)))
 
 is-line-fit-requires-2 : tie.Need-is-line-fit-requires-2
 is-line-fit-requires-2 c κs = search needs
@@ -54,7 +54,7 @@ enum-told-2 c = search needs
 
 returns-5 : tie.Need-returns-5
 unfolding fits
-returns-5 c = simp (c .enum-told .given .1)
+returns-5 c = sym (rw (c .enum-told .given .1))
 
 returns-6 : tie.Need-returns-6
 unfolding fits
@@ -62,19 +62,19 @@ returns-6 c = c .is-line-fit .ensures ∙ sym (simp (c .before .before .before .
 
 returns-7 : tie.Need-returns-7
 unfolding fits
-returns-7 c = c .is-line-fit2 .ensures ∙ sym (simp (c .before .before .before .x2 .given .1, eq-eqb _ _ (c .before .if4 .left)))
+returns-7 c = c .is-line-fit2 .ensures ∙ sym (rw (c .before .before .before .x2 .given .1, eq-eqb (c .before .before .before .before .before .args .held) 0 (c .before .if4 .left)))
 
 returns-8 : tie.Need-returns-8
 unfolding fits
-returns-8 c = c .is-talk-fit .ensures ∙ sym (simp (c .before .before .x3 .given .1))
+returns-8 c = c .is-talk-fit .ensures ∙ sym (rw (c .before .before .x3 .given .1))
 
 returns-9 : tie.Need-returns-9
 unfolding fits
-returns-9 c = c .is-line-fit3 .ensures ∙ sym (simp (c .before .before .x4 .given .1))
+returns-9 c = c .is-line-fit3 .ensures ∙ sym (rw (c .before .before .x4 .given .1))
 
 returns-10 : tie.Need-returns-10
 unfolding fits
-returns-10 c = simp (c .enum-told2 .given .1)
+returns-10 c = sym (rw (c .enum-told2 .given .1))
 
 pub is-fit-spec : {M : Type 1} → statement M
 is-fit-spec =

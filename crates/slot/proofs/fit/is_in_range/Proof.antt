@@ -19,19 +19,19 @@ is-turn-fit-requires c κs = search needs
 
 returns : tie.Need-returns
 unfolding inRange
-returns c = c .is-turn-fit .ensures ∙ sym (simp (sym (c .before .before .before .before .before .before .is-line-fit .ensures) ∙ c .before .before .before .before .before .if1 .taken, sym (c .before .before .before .before .is-cut-fit .ensures) ∙ c .before .before .before .if2 .taken, sym (c .before .before .is-last-fit .ensures) ∙ c .before .if3 .taken))
+returns c = c .is-turn-fit .ensures ∙ sym (rw (sym (c .before .before .before .before .before .before .is-line-fit .ensures) ∙ c .before .before .before .before .before .if1 .taken, sym (c .before .before .before .before .is-cut-fit .ensures) ∙ c .before .before .before .if2 .taken, sym (c .before .before .is-last-fit .ensures) ∙ c .before .if3 .taken))
 
 returns-2 : tie.Need-returns-2
 unfolding inRange
-returns-2 c = simp (sym (c .before .before .before .before .before .is-line-fit .ensures) ∙ c .before .before .before .before .if1 .taken, sym (c .before .before .before .is-cut-fit .ensures) ∙ c .before .before .if2 .taken, sym (c .before .is-last-fit .ensures) ∙ c .if3 .left)
+returns-2 c = sym (rw (sym (c .before .before .before .before .before .is-line-fit .ensures) ∙ c .before .before .before .before .if1 .taken, sym (c .before .before .before .is-cut-fit .ensures) ∙ c .before .before .if2 .taken, sym (c .before .is-last-fit .ensures) ∙ c .if3 .left))
 
 returns-3 : tie.Need-returns-3
 unfolding inRange
-returns-3 c = simp (sym (c .before .before .before .is-line-fit .ensures) ∙ c .before .before .if1 .taken, sym (c .before .is-cut-fit .ensures) ∙ c .if2 .left)
+returns-3 c = sym (rw (sym (c .before .before .before .is-line-fit .ensures) ∙ c .before .before .if1 .taken, sym (c .before .is-cut-fit .ensures) ∙ c .if2 .left))
 
 returns-4 : tie.Need-returns-4
 unfolding inRange
-returns-4 c = simp (sym (c .before .is-line-fit .ensures) ∙ c .if1 .left)
+returns-4 c = sym (rw (sym (c .before .is-line-fit .ensures) ∙ c .if1 .left))
 
 pub is-in-range-spec : {M : Type 1} → statement M
 is-in-range-spec =

@@ -3,6 +3,7 @@ use borrow.Author.Needs.{needs}
 use Rattle.slot.proofs.fit.is_last_fit.Statement.{statement}
 use Rattle.slot.proofs.fit.is_last_fit.Tie as tie
 use Rattle.slot.specs.Fit.{lastFits}
+use mathlib.Core.Path.{sym}
 
 enum-told : tie.Need-enum-told
 enum-told c = search needs
@@ -15,15 +16,15 @@ enum-told-2 c = search needs
 
 returns : tie.Need-returns
 unfolding lastFits
-returns c = simp (c .enum-told .given .1)
+returns c = sym (rw (c .enum-told .given .1))
 
 returns-2 : tie.Need-returns-2
 unfolding lastFits
-returns-2 c = simp (c .before .last .given .1)
+returns-2 c = sym (rw (c .before .last .given .1))
 
 returns-3 : tie.Need-returns-3
 unfolding lastFits
-returns-3 c = simp (c .enum-told2 .given .1)
+returns-3 c = sym (rw (c .enum-told2 .given .1))
 
 pub is-last-fit-spec : {M : Type 1} → statement M
 is-last-fit-spec =

@@ -7,19 +7,19 @@ use mathlib.Core.Path.{sym}
 
 returns : tie.Need-returns
 unfolding lineFits
-returns c = simp (lt-leb _ _ (c .if1 .taken))
+returns c = let l = c .before .before .args .l in sym (rw (lt-leb 16 (l .ifsc) (c .if1 .taken)))
 
 returns-2 : tie.Need-returns-2
 unfolding lineFits
-returns-2 c = simp (le-leb _ _ (c .before .before .if1 .left), lt-leb _ _ (c .if2 .taken))
+returns-2 c = let l = c .before .before .before .before .args .l in sym (rw (le-leb 16 (l .ifsc) (c .before .before .if1 .left), lt-leb (l .ifsc) 254 (c .if2 .taken)))
 
 returns-3 : tie.Need-returns-3
 unfolding lineFits
-returns-3 c = simp (le-leb _ _ (c .before .before .before .before .if1 .left), le-leb _ _ (c .before .before .if2 .left), lt-leb _ _ (c .if3 .taken))
+returns-3 c = let l = c .before .before .before .before .before .before .args .l in sym (rw (le-leb 16 (l .ifsc) (c .before .before .before .before .if1 .left), le-leb (l .ifsc) 254 (c .before .before .if2 .left), lt-leb (l .bwt) 15371 (c .if3 .taken)))
 
 returns-4 : tie.Need-returns-4
 unfolding lineFits
-returns-4 c = simp (le-leb _ _ (c .before .before .before .before .before .before .if1 .left), le-leb _ _ (c .before .before .before .before .if2 .left), le-leb _ _ (c .before .before .if3 .left), lt-leb _ _ (c .if4 .taken))
+returns-4 c = let l = c .before .before .before .before .before .before .before .before .args .l in sym (rw (le-leb 16 (l .ifsc) (c .before .before .before .before .before .before .if1 .left), le-leb (l .ifsc) 254 (c .before .before .before .before .if2 .left), le-leb (l .bwt) 15371 (c .before .before .if3 .left), lt-leb (l .s) 1 (c .if4 .taken)))
 
 returns-5 : tie.Need-returns-5
 unfolding lineFits

@@ -7,15 +7,15 @@ use borrow.Author.Tests.{le-leb, lt-leb}
 
 returns : tie.Need-returns
 unfolding turnFits
-returns c = simp (lt-leb _ _ (c .if1 .taken))
+returns c = let u = c .before .before .args .u in sym (rw (lt-leb 1 (u .go) (c .if1 .taken)))
 
 returns-2 : tie.Need-returns-2
 unfolding turnFits
-returns-2 c = simp (le-leb _ _ (c .before .before .if1 .left), lt-leb _ _ (c .if2 .taken))
+returns-2 c = let u = c .before .before .before .before .args .u in sym (rw (le-leb 1 (u .go) (c .before .before .if1 .left), lt-leb (u .go) 3 (c .if2 .taken)))
 
 returns-3 : tie.Need-returns-3
 unfolding turnFits
-returns-3 c = simp (le-leb _ _ (c .before .before .before .before .if1 .left), le-leb _ _ (c .before .before .if2 .left), lt-leb _ _ (c .if3 .taken))
+returns-3 c = let u = c .before .before .before .before .before .before .args .u in sym (rw (le-leb 1 (u .go) (c .before .before .before .before .if1 .left), le-leb (u .go) 3 (c .before .before .if2 .left), lt-leb (u .requests) 255 (c .if3 .taken)))
 
 returns-4 : tie.Need-returns-4
 unfolding turnFits

@@ -13,11 +13,11 @@ use lib.Dec.{eqb}
 
 returns : tie.Need-returns
 unfolding goodForm
-returns c = simp (eq-eqb _ _ (c .if1 .taken))
+returns c = sym (rw (eq-eqb (length (now (c .before .before .args .bytes))) 4 (c .if1 .taken)))
 
 returns-2 : tie.Need-returns-2
 unfolding goodForm
-returns-2 c = simp (ne-eqb _ _ (c .before .if1 .left), eq-eqb _ _ (c .if2 .taken))
+returns-2 c = let s = now (c .before .before .before .args .bytes) in sym (rw (ne-eqb (length s) 4 (c .before .if1 .left), eq-eqb (length s) 5 (c .if2 .taken)))
 
 get8-requires : tie.Need-get8-requires
 get8-requires c κs = search needs

@@ -2,8 +2,10 @@
 use borrow.Author.Needs.{needs}
 use Rattle.turn.proofs.rows.accept.Statement.{statement}
 use Rattle.turn.proofs.rows.accept.Tie as tie
-use Rattle.turn.specs.Rows.{accepted}
+use Rattle.turn.specs.Rows.{accepted, acknowledge, completed}
 use Rattle.turn.proofs.SafeLaws.{took-safe}
+use Rattle.slot.specs.declared.parts.Talk.{Talk}
+use mathlib.Core.Path.{sym, ap, _∙_}
 
 take-requires : tie.Need-take-requires
 take-requires c κs = search needs
@@ -13,7 +15,7 @@ send-ack-requires c κs = took-safe (c .before .before .args .t) (c .take .resul
 
 returns : tie.Need-returns
 unfolding accepted
-returns c = simp (c .send-ack .ensures, c .before .take .ensures, c .before .before .if1 .taken)
+returns c = c .send-ack .ensures ∙ ap acknowledge (c .before .take .ensures) ∙ sym (rw (c .before .before .if1 .taken))
 
 take-requires-2 : tie.Need-take-requires-2
 take-requires-2 c κs = search needs
@@ -23,7 +25,7 @@ complete-requires c κs = search needs
 
 returns-2 : tie.Need-returns-2
 unfolding accepted
-returns-2 c = simp (c .complete .ensures, c .before .take2 .ensures, c .before .before .if1 .left)
+returns-2 c = c .complete .ensures ∙ ap (λ (k : Talk). completed k (c .before .before .before .args .length)) (c .before .take2 .ensures) ∙ sym (rw (c .before .before .if1 .left))
 
 pub accept-spec : {M : Type 1} → statement M
 accept-spec =

@@ -9,13 +9,13 @@ end-requires : tie.Need-end-requires
 end-requires c κs = search needs
 
 returns : tie.Need-returns
-returns c = c .end .ensures ∙ sym (simp (eq-eqb _ _ (c .before .if1 .taken)))
+returns c = c .end .ensures ∙ sym (rw (eq-eqb (c .before .before .args .length) 1 (c .before .if1 .taken)))
 
 rest-requires : tie.Need-rest-requires
 rest-requires c κs = search needs
 
 returns-2 : tie.Need-returns-2
-returns-2 c = c .rest .ensures ∙ sym (simp (ne-eqb _ _ (c .before .before .if1 .left)))
+returns-2 c = c .rest .ensures ∙ sym (rw (ne-eqb (c .before .before .before .args .length) 1 (c .before .before .if1 .left)))
 
 pub complete-spec : {M : Type 1} → statement M
 complete-spec = tie.close (tie.spec end-requires returns rest-requires returns-2)

@@ -3,8 +3,12 @@ use borrow.Author.Needs.{needs}
 use Rattle.turn.proofs.rows.on_request.Statement.{statement}
 use Rattle.turn.proofs.rows.on_request.Tie as tie
 use Rattle.turn.specs.Rows.{onRequest}
-use mathlib.Core.Path.{sym, _∙_}
+use mathlib.Core.Path.{sym, _∙_, ap}
 use borrow.Author.Tests.{lt-ltb, le-ltb}
+use Rattle.slot.specs.declared.parts.Last.the-variants as last
+use Rattle.slot.specs.declared.parts.Send.the-variants as send
+use Rattle.turn.specs.Sending.{newly}
+use Rattle.slot.specs.declared.parts.Talk.{Talk}
 
 count-requires : tie.Need-count-requires
 count-requires c κs = search needs
@@ -14,14 +18,16 @@ send-new-requires c κs = rw (c .count .ensures) (c .before .before .before .pre
 
 returns : tie.Need-returns
 unfolding onRequest
-returns c = simp (c .send-new .ensures, c .before .count .ensures, lt-ltb _ _ (c .before .before .if1 .taken))
+returns c =
+    let a = c .before .before .before .before .args in
+    c .send-new .ensures ∙ ap (λ (k : Talk). newly k (last.S (a .pcb) (a .byte)) (send.S (a .pcb) (a .byte)) (a .wait)) (c .before .count .ensures) ∙ sym (rw (lt-ltb (c .before .before .before .before .args .t .turn .requests) 255 (c .before .before .if1 .taken)))
 
 end-requires : tie.Need-end-requires
 end-requires c κs = search needs
 
 returns-2 : tie.Need-returns-2
 unfolding onRequest
-returns-2 c = c .end .ensures ∙ sym (simp (le-ltb _ _ (c .before .if1 .left)))
+returns-2 c = c .end .ensures ∙ sym (rw (le-ltb (c .before .before .before .args .t .turn .requests) 255 (c .before .if1 .left)))
 
 pub on-request-spec : {M : Type 1} → statement M
 on-request-spec =

@@ -25,15 +25,15 @@ send-in-place-requires-3 c κs = search needs
 
 returns : tie.Need-returns
 unfolding invalid
-returns c = c .send-in-place .ensures ∙ sym (simp (c .before .enum-told .given .1))
+returns c = c .send-in-place .ensures ∙ sym (rw (c .before .enum-told .given .1))
 
 returns-2 : tie.Need-returns-2
 unfolding invalid
-returns-2 c = c .send-in-place2 .ensures ∙ sym (simp (c .before .before .last .given .1))
+returns-2 c = c .send-in-place2 .ensures ∙ sym (rw (c .before .before .last .given .1))
 
 returns-3 : tie.Need-returns-3
 unfolding invalid
-returns-3 c = c .send-in-place3 .ensures ∙ sym (simp (c .before .enum-told2 .given .1))
+returns-3 c = c .send-in-place3 .ensures ∙ sym (rw (c .before .enum-told2 .given .1))
 
 pub answer-invalid-spec : {M : Type 1} → statement M
 answer-invalid-spec =

@@ -12,13 +12,13 @@ add-t7 : tie.Need-add-t7
 add-t7 c = search needs
 
 returns : tie.Need-returns
-returns c = simp (lt-ltb _ _ (c .if1 .taken))
+returns c = sym (rw (lt-ltb (c .before .args .sent) 3 (c .if1 .taken)))
 
 end-requires : tie.Need-end-requires
 end-requires c κs = search needs
 
 returns-2 : tie.Need-returns-2
-returns-2 c = c .end .ensures ∙ sym (simp (le-ltb _ _ (c .before .if1 .left)))
+returns-2 c = c .end .ensures ∙ sym (rw (le-ltb (c .before .before .args .sent) 3 (c .before .if1 .left)))
 
 pub greet-again-spec : {M : Type 1} → statement M
 greet-again-spec = tie.close (tie.spec add-t4 add-t7 returns end-requires returns-2)

@@ -2,6 +2,9 @@
 use borrow.Author.Needs.{needs}
 use Rattle.turn.proofs.sending.send_new.Statement.{statement}
 use Rattle.turn.proofs.sending.send_new.Tie as tie
+use Rattle.turn.specs.Sending.{goesOut}
+use Rattle.slot.specs.declared.parts.Talk.{Talk}
+use mathlib.Core.Path.{ap, _∙_}
 
 sent-at-requires : tie.Need-sent-at-requires
 sent-at-requires c κs = search needs
@@ -10,7 +13,7 @@ go-out-requires : tie.Need-go-out-requires
 go-out-requires c κs = search needs
 
 returns : tie.Need-returns
-returns c = simp (c .go-out .ensures, c .before .sent-at .ensures)
+returns c = c .go-out .ensures ∙ ap (λ (k : Talk). goesOut k (c .before .before .args .b) (c .before .before .args .wait)) (c .before .sent-at .ensures)
 
 pub send-new-spec : {M : Type 1} → statement M
 send-new-spec = tie.close (tie.spec sent-at-requires go-out-requires returns)
