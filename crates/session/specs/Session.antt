@@ -25,7 +25,7 @@ whileGreeting l n (Wtx v) = greetAgain l n
 whileGreeting l n Edc = greetAgain l n
 whileGreeting l n Other = greetAgain l n
 
--- ---- command
+-- ---- command; its form is `goodForm` of Refusal, and makes it 4 to 261 bytes (proofs/FormLaws)
 
 -- it goes out in I-blocks of min(IFSC, what is left), with b6 set while more is left; each new one is numbered 1 - s
 abbrev pub nextBlock : Talk → Block

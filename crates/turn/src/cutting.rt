@@ -39,7 +39,7 @@ pub(crate) fn is_more(c: Cut) -> bool
 }
 
 // The last I-block, as it was cut.
-pub(crate) fn last_i(t: Talk) -> Send
+fn last_i(t: Talk) -> Send
     requires { ⌜ Numbers t × Within (t .cut) ⌝ }
     ensures { λ b. ⌜ b ≡ lastI t ⌝ }
 {
@@ -52,7 +52,7 @@ pub(crate) fn last_i(t: Talk) -> Send
 }
 
 // The next cut: min(IFSC, what is left).
-pub(crate) fn next_cut(ifsc: u8, c: Cut) -> Cut
+fn next_cut(ifsc: u8, c: Cut) -> Cut
     requires { ⌜ Within c ⌝ }
     ensures { λ n. ⌜ n ≡ nextCut ifsc c ⌝ }
 {
@@ -65,7 +65,7 @@ pub(crate) fn next_cut(ifsc: u8, c: Cut) -> Cut
 }
 
 // The next I-block is cut, and stands; s is its number.
-pub(crate) fn cut_next(t: Talk) -> Talk
+fn cut_next(t: Talk) -> Talk
     requires { ⌜ Within (t .cut) ⌝ }
     ensures { λ n. ⌜ n ≡ cutNext t ⌝ }
 {

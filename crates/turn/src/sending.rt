@@ -60,7 +60,7 @@ pub(crate) fn r_block(number: u8, nibble: u8) -> Send
 }
 
 // One block more was sent: it is the last, at that go.
-pub(crate) fn sent_at(t: Talk, last: Last, go: u8) -> Talk
+fn sent_at(t: Talk, last: Last, go: u8) -> Talk
     requires { ⌜ t .turn .sent < 65536 ⌝ }
     ensures { λ n. ⌜ n ≡ sentAt t last go ⌝ }
 {
@@ -76,7 +76,7 @@ pub(crate) fn sent_at(t: Talk, last: Last, go: u8) -> Talk
 }
 
 // A block goes out, and the slot is busy.
-pub(crate) fn go_out(t: Talk, send: Send, wait: u32) -> Next
+fn go_out(t: Talk, send: Send, wait: u32) -> Next
     ensures { λ n. ⌜ n ≡ goesOut t send wait ⌝ }
 {
     Next {
