@@ -62,6 +62,7 @@ module _ (t : Talk) (k : TalkKept t) where
     first = first;
     third = third;
     requests = few;
+    begun = omega arith;
     sent = omega (arith, k .sent);
   }
     where
@@ -150,6 +151,7 @@ send-kept t u =
       first = omega arith;
       third = omega arith;
       requests = u .requests;
+      begun = omega arith;
       sent = omega (arith, u .sent, u .line .low, u .some);
     }
 
@@ -224,6 +226,7 @@ module _ (t : Talk) (k : TalkKept t) where
         first = omega arith;
         third = omega arith;
         requests = k .requests;
+        begun = omega arith;
         sent = omega (arith, k .sent, k .third);
       })
       (λ _. cond-case DidKept (isOneByte (took t inf)) (λ _. tt) (λ _. flipped))

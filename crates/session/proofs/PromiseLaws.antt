@@ -16,6 +16,7 @@ use Rattle.session.specs.History.{Past, since, backTo, events, Told, All
 use Rattle.session.specs.Kept.{Kept}
 use Rattle.session.specs.Promise.{Slot, Promised}
 use Rattle.session.proofs.LawfulLaws.{t1-lawful}
+use Rattle.session.proofs.DueLaws.{asks-due}
 use Rattle.session.proofs.HistoryLaws.{Inv, Said, step-said, inv-empty, held-told}
 use Rattle.session.proofs.KeptLaws.{next-kept}
 use Rattle.session.proofs.BoundLaws.{Spent, Bound, step-bound}
@@ -67,7 +68,7 @@ module _ (K : Pool) (F : Fit K) (r : Rack t1) (S : Sound K (holds t1 r)) where
       }
 
   pub promised : Promised K r
-  promised = record { shares = demand3 K t1 F t1-lawful r S; slots = slot }
+  promised = record { shares = demand3 K t1 F t1-lawful r S; due = asks-due; slots = slot }
 
 -- from a rack whose slots are all empty
 pub fresh-promised : (K : Pool) → Fit K → (r : Rack t1) → ((i : ℕ) → r i ≡ empty) → Promised K r

@@ -9,6 +9,7 @@ use Rattle.atr.specs.Answer.{zeros}
 pub record Lent : Type 0 where
   pub table : ℕ
   pub output : ℕ
+  -- the record that the answer is written to
   pub answer : ℕ
 
 -- remove has no output: that length is not looked at

@@ -6,7 +6,7 @@ use lib.Dec.{ltb}
 use lib.ListN.{length}
 use Rattle.session.specs.Slot.{Block, iBlock, rBlock, ifsRequest, sResponse, Line, Talk, State, empty, greeting, ready, busy, done, ended}
 
--- IFSC from 16 to 254, BWT as the greatest that an ATR asks for, numbers 0 or 1
+-- IFSC from 16 to 254, BWT at most the greatest that an ATR asks for, numbers 0 or 1
 pub record LineKept (l : Line) : Type 0 where
   pub low : 16 ≤ l .ifsc
   pub high : l .ifsc ≤ 254
@@ -43,6 +43,8 @@ pub record TalkKept (t : Talk) : Type 0 where
   pub third : t .go ≤ 3
   -- at most 255 requests
   pub requests : t .requests ≤ 255
+  -- the first block of the command at least
+  pub begun : 1 ≤ t .sent
   -- Blocks sent: three goes for each that started at go 1, and the goes of the last. What is left goes out in
   -- (left + 15) / 16 blocks at most.
   pub sent : t .sent + 3 * ((length (t .left) + 15) / 16) ≤ 3 * (16 + length (t .got) + t .requests) + t .go

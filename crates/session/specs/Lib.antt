@@ -4,6 +4,7 @@ pub mod Call
 pub mod Refusal
 pub mod Sending
 pub mod Session
+pub mod Due
 pub mod Protocol
 pub mod History
 pub mod Kept

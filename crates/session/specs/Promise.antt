@@ -2,12 +2,17 @@
 -- any slots, refused ones among them.
 use Prim.Native.Nat.{ℕ, _≤_, _<_}
 use mathlib.Core.Path.{_≡_}
+use mathlib.Core.Bool.{_&&_}
 use mathlib.Core.List.{List, []}
+use lib.Dec.{eqb}
 use Rattle.shares.specs.Pool.{Pool}
 use Rattle.shares.specs.Rack.{Call, Rack, run}
 use Rattle.shares.specs.Demand.{Demand3}
 use Rattle.shares.specs.Log.{logOn}
-use Rattle.session.specs.Slot.{stateNo, heldIn, empty}
+use Rattle.session.specs.Slot.{State, stateNo, heldIn, empty}
+use Rattle.session.specs.Call.{Input}
+use Rattle.session.specs.Refusal.{refusal}
+use Rattle.session.specs.Due.{dueIn}
 use Rattle.session.specs.Protocol.{t1}
 use Rattle.session.specs.History.{heldBy, stateIn, AllTold}
 use Rattle.session.specs.Kept.{Kept}
@@ -24,4 +29,6 @@ pub record Slot (K : Pool) (r : Rack t1) (i : ℕ) (cs : List (Call t1)) : Type 
 
 pub record Promised (K : Pool) (r : Rack t1) : Type 0 where
   pub shares : Demand3 K t1 r
+  -- whose calls ask for a cell exactly for an I-block that is the next one due, where they are not refused
+  pub due : (i : ℕ) (s : State) (x : Input) → t1 .asks i s x ≡ (eqb (refusal s x) 0 && dueIn s x)
   pub slots : (i : ℕ) → i < K .holders → r i ≡ empty → (cs : List (Call t1)) → Slot K r i cs

@@ -54,8 +54,11 @@ onEvent (done l got) e inf = stays (done l got)
 onEvent ended e inf = stays ended
 
 -- collect copies the response, frees the cells, and the slot is ready
+abbrev pub collected : Line → (got : List (List ℕ)) → Did
+collected l got = rests (ready l) 0 (join got)
+
 abbrev pub onCollect : State → Row State Answer
-onCollect (done l got) = now (rests (ready l) 0 (join got))
+onCollect (done l got) = now (collected l got)
 onCollect empty = stays empty
 onCollect (greeting l n) = stays (greeting l n)
 onCollect (ready l) = stays (ready l)

@@ -30,9 +30,19 @@ ends ending sent = record { state = ended; answer = says (stateNo ended) ending 
 
 -- b is the last block sent, at that go
 abbrev pub sentAt : Talk → Block → (go : ℕ) → Talk
-sentAt t b go = record { line = t .line; command = t .command; left = t .left; standing = t .standing; last = b; go = go; requests = t .requests; got = t .got; sent = t .sent + 1 }
+sentAt t b go = record {
+  line = t .line;
+  command = t .command;
+  left = t .left;
+  standing = t .standing;
+  last = b;
+  go = go;
+  requests = t .requests;
+  got = t .got;
+  sent = t .sent + 1;
+}
 
--- go 4 would not be due yet
+-- the next go is not the fourth
 abbrev pub goLeft : (go : ℕ) → Bool
 goLeft go = ltb go 3
 

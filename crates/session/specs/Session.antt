@@ -48,7 +48,7 @@ cut t = record {
 abbrev pub sendNext : Talk → Did
 sendNext t = newly (cut t) (nextBlock t) (t .line .bwt)
 
--- nothing of the command has gone out; its first block makes its own place as standing and last
+-- nothing of the command has gone out; its first block becomes standing and last, and what is written here is not looked at
 abbrev pub unsent : Line → List ℕ → Talk
 unsent l bs =
     record { line = l; command = bs; left = bs; standing = ifsRequest; last = ifsRequest; go = 0; requests = 0; got = []; sent = 0 }
@@ -84,7 +84,17 @@ took t inf = record {
 }
 
 abbrev pub stands : Talk → Block → Talk
-stands t b = record { line = t .line; command = t .command; left = t .left; standing = b; last = t .last; go = t .go; requests = t .requests; got = t .got; sent = t .sent }
+stands t b = record {
+  line = t .line;
+  command = t .command;
+  left = t .left;
+  standing = b;
+  last = t .last;
+  go = t .go;
+  requests = t .requests;
+  got = t .got;
+  sent = t .sent;
+}
 
 -- more: send R(r) error-free, now standing
 abbrev pub acknowledge : Talk → Did
@@ -139,7 +149,7 @@ counted t n = record {
   sent = t .sent;
 }
 
--- the 256th is not due yet
+-- the next request is not the 256th
 abbrev pub requestLeft : (requests : ℕ) → Bool
 requestLeft requests = ltb requests 255
 

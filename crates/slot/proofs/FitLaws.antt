@@ -2,7 +2,7 @@
 use Prim.Native.Nat.{ℕ, _+_, _-_, _*_, _/_, _≤_}
 use mathlib.Core.Path.{_≡_, refl, sym, ap, _∙_}
 use mathlib.Core.Bool.{Bool, true, false, cond, not, _&&_}
-use mathlib.Core.List.{List, [], _++_}
+use mathlib.Core.List.{List, [], _∷_, _++_}
 use native.Mathlib.Omega.{arith}
 use lib.Dec.{ltb, leb, eqb}
 use lib.ListN.{length, take, drop, length-drop, take-append-drop, drop-of-length-le}
@@ -12,7 +12,7 @@ use Rattle.lent.specs.Place.{window}
 use Rattle.lent.proofs.Cases.{cond-case, and-left, and-right, and-true, le-or-lt}
 use Rattle.lent.proofs.PlaceLaws.{length-window}
 use Rattle.block.specs.Event.{between}
-use Rattle.session.specs.Slot.{Block, iBlock, rBlock, ifsRequest, sResponse}
+use Rattle.session.specs.Slot.{Block, iBlock, rBlock, ifsRequest, sResponse, stateNo, gotIn}
 use Rattle.session.specs.Kept.{LineKept, Standing, Last as LastKept, TalkKept, Kept}
 use Rattle.slot.specs.declared.parts.Line.{Line}
 use Rattle.slot.specs.declared.parts.Cut.{Cut}
@@ -23,7 +23,7 @@ use Rattle.slot.specs.declared.parts.Slot.{Slot}
 use Rattle.slot.specs.declared.parts.Slot.the-variants.{Empty, Greeting, Ready, Busy, Done, Ended}
 use Rattle.slot.specs.Blocks.{isMore}
 use Rattle.slot.specs.Fit.{lineFits, cutFits, lastFits, turnFits, inRange, stepsFit, talkFits, fits, CutIn, InRange}
-use Rattle.slot.specs.View.{lineOf, iOf, lastOf, talkOf, stateOf, KeptFor}
+use Rattle.slot.specs.View.{lineOf, iOf, lastOf, talkOf, stateOf, slotNo, KeptFor}
 
 -- ---- a range
 
@@ -94,6 +94,7 @@ in-range t e =
     let e3 = and-right (lastFits (t .turn .last) (t .acked)) _ e2 in
     let e4 = and-right (between 1 (t .turn .go) 3) _ e3 in
     let go = range 1 (t .turn .go) 3 (and-left _ _ e3) in
+    let sent = range 1 (t .turn .sent) 1104 (and-right (leb (t .turn .requests) 255) _ e4) in
     record {
       line = line-fit (t .line) (and-left _ _ e);
       cut = cut-kept (t .cut) (and-left _ _ e1);
@@ -101,7 +102,8 @@ in-range t e =
       first = go .0;
       third = go .1;
       requests = leb-true (t .turn .requests) 255 (and-left _ _ e4);
-      sent = leb-true (t .turn .sent) 1104 (and-right (leb (t .turn .requests) 255) _ e4);
+      begun = sent .0;
+      sent = sent .1;
     }
 
 range-in : (t : Talk) → InRange t → inRange t ≡ true
@@ -114,6 +116,7 @@ range-in t f =
       le-leb 1 (t .turn .go) (f .first),
       le-leb (t .turn .go) 3 (f .third),
       le-leb (t .turn .requests) 255 (f .requests),
+      le-leb 1 (t .turn .sent) (f .begun),
       le-leb (t .turn .sent) 1104 (f .sent),
     )
 
@@ -213,6 +216,7 @@ module _ (t : Talk) (command : List ℕ) (got : List (List ℕ)) (whole : length
     first = f .range .first;
     third = f .range .third;
     requests = f .range .requests;
+    begun = f .range .begun;
     sent = omega (arith, left, f .steps);
   }
 
@@ -244,6 +248,7 @@ module _ (t : Talk) (command : List ℕ) (got : List (List ℕ)) (whole : length
           first = k .first;
           third = k .third;
           requests = k .requests;
+          begun = k .begun;
           sent = omega (arith, steps, k .third, k .requests);
         };
         over = over (t .acked) (k .standing);
@@ -302,3 +307,29 @@ kept-fits (Ready l) command got f k = rw (eq-eqb (length got) 0 f) (line-fits l 
 kept-fits (Busy t) command got f k = fit-talk t (length got) (talk-fits t command got (f .0) (f .1) (f .2) k)
 kept-fits (Done l) command got f k = line-fits l k
 kept-fits Ended command got f k = eq-eqb (length got) 0 f
+
+-- ---- what is shown
+
+-- the state's number
+pub state-no : (x : Slot) (command : List ℕ) (got : List (List ℕ)) → stateNo (stateOf x command got) ≡ slotNo x
+unfolding stateOf
+state-no Empty command got = refl
+state-no (Greeting l sent) command got = refl
+state-no (Ready l) command got = refl
+state-no (Busy t) command got = refl
+state-no (Done l) command got = refl
+state-no Ended command got = refl
+
+none : (got : List (List ℕ)) → length got ≡ 0 → [] ≡ got
+none [] e = refl
+none (p ∷ ps) e = absurd (omega arith)
+
+-- the pieces, of a slot that fits
+pub got-shown : (x : Slot) (command : List ℕ) (got : List (List ℕ)) → fits x (length got) ≡ true → gotIn (stateOf x command got) ≡ got
+unfolding fits stateOf
+got-shown Empty command got e = none got (eqb-true (length got) 0 e)
+got-shown (Greeting l sent) command got e = none got (eqb-true (length got) 0 (and-left _ _ e))
+got-shown (Ready l) command got e = none got (eqb-true (length got) 0 (and-left _ _ e))
+got-shown (Busy t) command got e = refl
+got-shown (Done l) command got e = refl
+got-shown Ended command got e = none got (eqb-true (length got) 0 e)

@@ -1,4 +1,4 @@
--- Whether a slot's numbers can be what calls leave: the invariant of the crate `session`, as a test.
+-- Whether a slot's numbers fit, as far as ranges and counts tell: the invariant of the crate `session`, as a test.
 use Prim.Native.Nat.{ℕ, _+_, _-_, _*_, _/_, _≤_}
 use mathlib.Core.Path.{_≡_}
 use mathlib.Core.Bool.{Bool, true, not, _&&_}
@@ -30,9 +30,9 @@ lastFits last.the-variants.I acked = not acked
 lastFits (last.the-variants.R nibble) acked = leb nibble 2
 lastFits (last.the-variants.S pcb byte) acked = true
 
--- goes 1 to 3, at most 255 requests, at most 3 × (272 + 96) blocks sent
+-- goes 1 to 3, at most 255 requests, 1 to 3 × (272 + 96) blocks sent
 unfoldable pub turnFits : Turn → Bool
-turnFits u = between 1 (u .go) 3 && (leb (u .requests) 255 && leb (u .sent) 1104)
+turnFits u = between 1 (u .go) 3 && (leb (u .requests) 255 && between 1 (u .sent) 1104)
 
 -- each number of a talk lies in its range
 unfoldable pub inRange : Talk → Bool
@@ -74,4 +74,5 @@ pub record InRange (t : Talk) : Type 0 where
   pub first : 1 ≤ t .turn .go
   pub third : t .turn .go ≤ 3
   pub requests : t .turn .requests ≤ 255
+  pub begun : 1 ≤ t .turn .sent
   pub sent : t .turn .sent ≤ 1104

@@ -1,7 +1,7 @@
 -- What a slot's numbers show, with the bytes of its command and the pieces that it holds: the slot of the crate `session`.
 use Prim.Native.Nat.{ℕ, _+_}
 use mathlib.Core.Path.{_≡_}
-use mathlib.Core.Bool.{Bool, true, false, cond}
+use mathlib.Core.Bool.{cond}
 use mathlib.Core.List.{List}
 use lib.ListN.{length, drop}
 use Rattle.lent.specs.Place.{window}
@@ -74,17 +74,12 @@ KeptFor (Ready l) command = Unit
 KeptFor (Done l) command = Unit
 KeptFor Ended command = Unit
 
--- an event is for a slot that is greeting or busy
-abbrev pub listens : Slot → Bool
-listens (Greeting l sent) = true
-listens (Busy t) = true
-listens Empty = false
-listens (Ready l) = false
-listens (Done l) = false
-listens Ended = false
-
 -- ---- what a call gives
 
--- the answer, as the paper has it
+-- the answer, as the paper has it, with these bytes written to the output
+abbrev pub saidWith : Next → Report → (out : List ℕ) → Answer
+saidWith n report out = says (slotNo (n .slot)) (n .ending) (n .sent) (n .wait) report out
+
+-- of a call that sends: the bytes of the block
 abbrev pub saidBy : Next → (command : List ℕ) → Report → Answer
-saidBy n command report = says (slotNo (n .slot)) (n .ending) (n .sent) (n .wait) report (bytesOf (n .send) command)
+saidBy n command report = saidWith n report (bytesOf (n .send) command)

@@ -1,4 +1,4 @@
-// Whether a slot's numbers can be what calls leave.
+// Whether a slot's numbers fit, as far as ranges and counts tell. Every call leaves a slot that fits.
 ghost use mathlib.Core.Path.{_≡_};
 ghost use Rattle.slot.specs.Fit.{lineFits, cutFits, lastFits, turnFits, inRange, stepsFit, talkFits, fits, InRange};
 use super::parts::Cut;
@@ -60,7 +60,7 @@ fn is_last_fit(last: Last, acked: bool) -> bool
     }
 }
 
-// Goes 1 to 3, at most 255 requests, at most 3 × (272 + 96) blocks.
+// Goes 1 to 3, at most 255 requests, 1 to 3 × (272 + 96) blocks.
 fn is_turn_fit(u: Turn) -> bool
     ensures { λ b. ⌜ b ≡ turnFits u ⌝ }
 {
@@ -71,6 +71,9 @@ fn is_turn_fit(u: Turn) -> bool
         return false;
     }
     if 255 < u.requests {
+        return false;
+    }
+    if u.sent < 1 {
         return false;
     }
     u.sent <= 1104
@@ -125,7 +128,7 @@ fn is_talk_fit(t: Talk, held: u8) -> bool
     false
 }
 
-// Whether a slot that holds so many cells can be what calls leave.
+// Whether a slot that holds so many cells fits.
 pub fn is_fit(x: Slot, held: u8) -> bool
     ensures { λ b. ⌜ b ≡ fits x held ⌝ }
 {

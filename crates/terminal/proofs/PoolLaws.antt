@@ -20,14 +20,14 @@ use Rattle.terminal.specs.Calls.{settledPool}
 use Rattle.terminal.specs.Shows.{Moves}
 
 pub then : {r q p : List ℕ} {i : ℕ} → Moves r q i → Moves q p i → Moves r p i
-then m n = record { sound = n .sound; others = λ j o. n .others j o ∙ m .others j o; limits = n .limits ∙ m .limits }
+then m n = record { sound = n .sound; long = n .long ∙ m .long; others = λ j o. n .others j o ∙ m .others j o; limits = n .limits ∙ m .limits }
 
 module _ (r : List ℕ) (s : sound r ≡ true) (i : ℕ) where
   here : Shows r
   here = promised .shows r s
 
   pub stayed : Moves r r i
-  stayed = record { sound = s; others = λ j o. refl; limits = refl }
+  stayed = record { sound = s; long = refl; others = λ j o. refl; limits = refl }
 
   -- no slot holds more than all cells
   pub few : i < holders → length (shown r .pieces i) ≤ 96
@@ -41,6 +41,7 @@ module _ (r : List ℕ) (s : sound r ≡ true) (i : ℕ) where
   unfolding appendTo
   append-moved xs = record {
     sound = here .append-sound i xs;
+    long = promised .append-length r i xs;
     others = λ j o.
         ap (λ (v : Contents). v .pieces j) (here .append-shows i xs)
         ∙ cond-case (λ (v : Contents). v .pieces j ≡ shown r .pieces j) (takesPiece (shown r) i xs) (λ _. rw (ne-eqb j i o)) (λ _. refl);
@@ -70,6 +71,7 @@ module _ (r : List ℕ) (s : sound r ≡ true) (i : ℕ) where
   unfolding releaseOf
   release-moved = record {
     sound = here .release-sound i;
+    long = promised .release-length r i;
     others = λ j o. ap (λ (v : Contents). v .pieces j) (here .release-shows i) ∙ rw (ne-eqb j i o);
     limits = ap (λ (v : Contents). v .limits) (here .release-shows i);
   }

@@ -11,6 +11,8 @@ use Rattle.lent.proofs.Cases.{cond-case}
 use Rattle.block.specs.Reader.{readOf, infRead}
 use Rattle.block.proofs.ReaderLaws.{read-told}
 use Rattle.atr.specs.declared.report.Report.{Report}
+use Rattle.atr.specs.Report.{Bounded}
+use Rattle.atr.specs.Answer.{zeros}
 use Rattle.region.specs.Sound.{sound}
 use Rattle.pool.specs.Calls.{response}
 use Rattle.pool.proofs.Shows as pool
@@ -18,6 +20,7 @@ use Rattle.session.specs.Slot.{wire, greeting, ready}
 use Rattle.session.specs.Refusal.{goodForm}
 use Rattle.session.specs.Sending.{Did}
 use Rattle.session.specs.Session as rows
+use Rattle.session.specs.Protocol as paper
 use Rattle.session.specs.Kept.{Kept}
 use Rattle.session.proofs.FormLaws.{form-fits}
 use Rattle.session.proofs.KeptLaws.{command-kept, event-kept}
@@ -27,29 +30,31 @@ use Rattle.slot.specs.declared.parts.Next.{Next}
 use Rattle.slot.specs.Blocks.{bytesOf}
 use Rattle.slot.specs.View.{lineOf, stateOf}
 use Rattle.slot.specs.Fit.{lineFits, fits}
-use Rattle.slot.proofs.FitLaws.{line-fit, line-fits, fit-kept, Frame, frame-kept, kept-fits}
+use Rattle.slot.proofs.FitLaws.{line-fit, line-fits, fit-kept, Frame, frame-kept, kept-fits, state-no, got-shown}
 use Rattle.slot.proofs.BlockLaws.{built}
-use Rattle.turn.specs.Calls.{unsent, started, commanded}
+use Rattle.turn.specs.Calls.{attached, unsent, started, commanded}
 use Rattle.turn.proofs.ViewLaws.{leaves, Shows, greeting-shows, next-shows}
 use Rattle.terminal.specs.Calls.{greeted, collects, collected, collectedPool}
-use Rattle.terminal.specs.Shows.{AttachShows, GivesShows, CollectShows, RemoveShows, Promised}
+use Rattle.terminal.specs.Shows.{GivesShows, CollectShows, RemoveShows, Promised}
 use Rattle.terminal.proofs.PoolLaws.{release-moved, release-held}
 use Rattle.terminal.proofs.EventLaws.{event-shows}
 
 -- ---- attach
 
-attach-shows : (rep : Report) (bs : List ℕ) → AttachShows rep bs
+attach-shows : (rep : Report) (bs : List ℕ) → Bounded rep → GivesShows (attached rep) rep bs (paper.attached rep)
 unfolding stateOf bytesOf wire fits
-attach-shows rep bs = record {
+attach-shows rep bs b = record {
   state = refl;
   answer = refl;
-  fit = λ b. line-fits _ (record { low = b .ifsc .0; high = b .ifsc .1; bwt = b .bwt .1; s = omega arith; r = omega arith });
+  fit = line-fits _ (record { low = b .ifsc .0; high = b .ifsc .1; bwt = b .bwt .1; s = omega arith; r = omega arith });
+  kept = tt;
+  small = omega arith;
 }
 
 -- ---- a slot that holds nothing
 
 -- what shows a state that keeps the paper's invariant is fit
-gives : (n : Next) (command : List ℕ) (d : Did) → Shows command [] n d → Kept (d .state) → GivesShows n command d
+gives : (n : Next) (command : List ℕ) (d : Did) → Shows command [] n d → Kept (d .state) → GivesShows n zeros command d
 gives n command d x k =
     record {
       state = state;
@@ -69,14 +74,14 @@ gives n command d x k =
     frame = subst (λ (got : List (List ℕ)). Frame (n .slot) command (length got)) none (x .frame)
 
 greet-shows : (l : Line) (sent k : ℕ) (bs command : List ℕ) → fits (Greeting l sent) 0 ≡ true
-    → GivesShows (greeted l sent k bs) command (rows.whileGreeting (lineOf l) sent (readOf k bs))
+    → GivesShows (greeted l sent k bs) zeros command (rows.whileGreeting (lineOf l) sent (readOf k bs))
 unfolding greeted stateOf
 greet-shows l sent k bs command f =
     gives _ command _ (greeting-shows command [] l sent (readOf k bs) refl)
     (event-kept (greeting (lineOf l) sent) (readOf k bs) (infRead k bs) (read-told k bs) (fit-kept (Greeting l sent) command [] tt f))
 
 command-shows : (l : Line) (bs : List ℕ) → lineFits l ≡ true → goodForm bs ≡ true
-    → GivesShows (commanded l bs) bs (rows.commanded (lineOf l) bs)
+    → GivesShows (commanded l bs) zeros bs (rows.commanded (lineOf l) bs)
 unfolding commanded
 command-shows l bs f good =
     let form = form-fits bs good in
@@ -94,6 +99,7 @@ collect-shows r i l bs out s f room =
     let fits-out : collects r i out ≡ true = le-leb (0 + length (response r i)) (length out) (omega arith) in
     record {
       state = rw fits-out;
+      answer = rw fits-out;
       delivered = pool.promised .shows r s .copy-shows i out;
       moves = rw fits-out (release-moved r s i);
       fit = rw (fits-out, release-held r s i) f;
@@ -101,11 +107,13 @@ collect-shows r i l bs out s f room =
 
 remove-shows : (r : List ℕ) (i : ℕ) → sound r ≡ true → RemoveShows r i
 unfolding stateOf fits
-remove-shows r i s = record { state = refl; moves = release-moved r s i; fit = rw (release-held r s i) }
+remove-shows r i s = record { state = refl; answer = refl; moves = release-moved r s i; fit = rw (release-held r s i) }
 
 pub promised : Promised
 promised = record {
   fit-kept = fit-kept;
+  state-no = state-no;
+  got-shown = got-shown;
   attach = attach-shows;
   greet = greet-shows;
   command = command-shows;

@@ -1,5 +1,5 @@
--- What each call makes of a slot in the call's state, whatever its numbers are: out of their ranges they stay, and nothing
--- is done.
+-- What each call makes of a slot in the call's state, whatever its numbers are. `commanded`, `taken` and `heard` leave
+-- numbers that are out of range, and do nothing; attach and `whileGreeting` go by the numbers as they stand.
 use Prim.Native.Nat.{ℕ}
 use mathlib.Core.Bool.{Bool, false, cond, _&&_}
 use mathlib.Core.List.{List}
@@ -28,7 +28,12 @@ attached rep = greets (record { ifsc = rep .ifsc; bwt = rep .bwt; s = 1; r = 0 }
 -- a command of n bytes, none of which has gone out
 abbrev pub unsent : Line → (n : ℕ) → Talk
 unsent l n =
-    record { line = l; cut = record { whole = n; from = 0; len = 0 }; acked = false; turn = record { last = last.the-variants.I; go = 0; requests = 0; sent = 0 } }
+    record {
+      line = l;
+      cut = record { whole = n; from = 0; len = 0 };
+      acked = false;
+      turn = record { last = last.the-variants.I; go = 0; requests = 0; sent = 0 };
+    }
 
 abbrev pub started : Line → (n : ℕ) → Next
 started l n = sendNext (unsent l n)

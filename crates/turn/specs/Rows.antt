@@ -2,9 +2,10 @@
 -- `session`, and proofs/ViewLaws shows that they come to the same.
 use Prim.Native.Nat.{ℕ, _+_, _-_, _*_}
 use mathlib.Core.Bool.{Bool, true, false, cond, not, _&&_, _||_}
-use lib.Dec.{ltb, eqb}
+use lib.Dec.{eqb}
 use Rattle.block.specs.declared.event.Event.{Event}
 use Rattle.block.specs.declared.event.Event.the-variants.{I, R, IfsRequest, IfsResponse, Abort, Wtx, Edc, Other}
+use Rattle.session.specs.Session.{requestLeft}
 use Rattle.slot.specs.declared.parts.Line.{Line}
 use Rattle.slot.specs.declared.parts.Last as last
 use Rattle.slot.specs.declared.parts.Talk.{Talk}
@@ -90,7 +91,7 @@ counted t ifsc = record {
 
 unfoldable pub onRequest : Talk → (ifsc pcb byte wait : ℕ) → Next
 onRequest t ifsc pcb byte wait =
-    cond (ltb (t .turn .requests) 255) (newly (counted t ifsc) (last.the-variants.S pcb byte) (send.the-variants.S pcb byte) wait)
+    cond (requestLeft (t .turn .requests)) (newly (counted t ifsc) (last.the-variants.S pcb byte) (send.the-variants.S pcb byte) wait)
     (ends 24 (t .turn .sent))
 
 -- ---- while busy; an I-block that comes here is not due

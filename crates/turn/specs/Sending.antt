@@ -1,8 +1,8 @@
 -- On a slot's numbers: blocks sent, goes, endings, the command's I-blocks, and what is sent for an invalid event.
 use Prim.Native.Nat.{ℕ, _+_, _-_, min}
 use mathlib.Core.Bool.{false, cond}
-use lib.Dec.{ltb}
 use Rattle.block.specs.Block.{iPcb, rPcb}
+use Rattle.session.specs.Sending.{goLeft}
 use Rattle.slot.specs.declared.parts.Line.{Line}
 use Rattle.slot.specs.declared.parts.Cut.{Cut}
 use Rattle.slot.specs.declared.parts.Last as last
@@ -41,7 +41,7 @@ abbrev pub newly : Talk → Last → Send → (wait : ℕ) → Next
 newly t l b wait = goesOut (sentAt t l 1) b wait
 
 abbrev pub again : Talk → Last → Send → Next
-again t l b = cond (ltb (t .turn .go) 3) (goesOut (sentAt t l (t .turn .go + 1)) b (t .line .bwt)) (ends 21 (t .turn .sent))
+again t l b = cond (goLeft (t .turn .go)) (goesOut (sentAt t l (t .turn .go + 1)) b (t .line .bwt)) (ends 21 (t .turn .sent))
 
 -- S(IFS request) with FE
 abbrev pub ifsRequest : Send
@@ -51,7 +51,7 @@ abbrev pub greets : Line → (sent : ℕ) → Next
 greets l sent = record { slot = Greeting l sent; send = ifsRequest; sent = sent; wait = l .bwt; ending = 0 }
 
 abbrev pub greetAgain : Line → (sent : ℕ) → Next
-greetAgain l sent = cond (ltb sent 3) (greets l (sent + 1)) (ends 21 sent)
+greetAgain l sent = cond (goLeft sent) (greets l (sent + 1)) (ends 21 sent)
 
 -- ---- invalid
 

@@ -1,5 +1,5 @@
-// What each call makes of a slot in the call's state, by value. Numbers out of their ranges stay, and nothing is done. The
-// pool is not in sight: the caller says whether an I-block was stored.
+// What each call makes of a slot in the call's state, by value. `command`, `asks_cell`, `take` and `hear` leave numbers that
+// are out of range, and do nothing. The pool is not in sight: the caller says whether an I-block was stored.
 ghost use mathlib.Core.Path.{_≡_};
 ghost use Prim.Native.Nat.{_≤_};
 ghost use Rattle.session.specs.History.{numberOf};
@@ -11,7 +11,6 @@ use slot::Cut;
 use slot::Last;
 use slot::Line;
 use slot::Next;
-use slot::Send;
 use slot::Slot;
 use slot::Talk;
 use slot::Turn;
@@ -27,24 +26,15 @@ fn stay(t: Talk) -> Next
 pub fn attach(report: Report) -> Next
     ensures { λ n. ⌜ n ≡ attached report ⌝ }
 {
-    Next {
-        slot: Slot::Greeting {
-            line: Line {
-                ifsc: report.ifsc,
-                bwt: report.bwt,
-                s: 1,
-                r: 0,
-            },
-            sent: 1,
+    super::sending::send_greeting(
+        Line {
+            ifsc: report.ifsc,
+            bwt: report.bwt,
+            s: 1,
+            r: 0,
         },
-        send: Send::S {
-            pcb: 0xC1,
-            byte: 0xFE,
-        },
-        sent: 1,
-        wait: report.bwt,
-        ending: 0,
-    }
+        1,
+    )
 }
 
 // The first I-block of a command of n bytes.

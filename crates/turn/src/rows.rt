@@ -76,7 +76,8 @@ fn take(t: Talk) -> Talk
     ensures { λ n. ⌜ n ≡ took t ⌝ }
 {
     let mut n = t;
-    let r = super::cutting::flip(t.line.r);
+    let old = t.line.r;
+    let r = super::cutting::flip(old);
     n.line.r = r;
     n
 }

@@ -2,7 +2,7 @@
 ghost use mathlib.Core.Path.{_≡_};
 ghost use Prim.Native.Nat.{_≤_, _<_};
 ghost use Rattle.block.specs.Block.{iPcb};
-ghost use Rattle.turn.specs.Sending.{rests, ends, sentAt, goesOut, newly, again, greetAgain, sendR, inPlace, invalid};
+ghost use Rattle.turn.specs.Sending.{rests, ends, sentAt, goesOut, newly, again, greets, greetAgain, sendR, inPlace, invalid};
 ghost use Rattle.turn.specs.Safe.{Numbers, Nibble};
 use slot::Last;
 use slot::Line;
@@ -107,24 +107,31 @@ pub(crate) fn send_again(t: Talk, last: Last, b: Send) -> Next
     end(21, t.turn.sent)
 }
 
-// S(IFS request) goes out again while greeting.
+// S(IFS request) with FE goes out, for the time `sent`.
+pub(crate) fn send_greeting(line: Line, sent: u32) -> Next
+    ensures { λ n. ⌜ n ≡ greets line sent ⌝ }
+{
+    Next {
+        slot: Slot::Greeting {
+            line: line,
+            sent: sent,
+        },
+        send: Send::S {
+            pcb: 0xC1,
+            byte: 0xFE,
+        },
+        sent: sent,
+        wait: line.bwt,
+        ending: 0,
+    }
+}
+
+// S(IFS request) goes out again.
 pub(crate) fn greet_again(line: Line, sent: u32) -> Next
     ensures { λ n. ⌜ n ≡ greetAgain line sent ⌝ }
 {
     if sent < 3 {
-        return Next {
-            slot: Slot::Greeting {
-                line: line,
-                sent: sent + 1,
-            },
-            send: Send::S {
-                pcb: 0xC1,
-                byte: 0xFE,
-            },
-            sent: sent + 1,
-            wait: line.bwt,
-            ending: 0,
-        };
+        return send_greeting(line, sent + 1);
     }
     end(21, sent)
 }

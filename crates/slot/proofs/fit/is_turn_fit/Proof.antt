@@ -19,7 +19,11 @@ returns-3 c = let u = c .before .before .before .before .before .before .args .u
 
 returns-4 : tie.Need-returns-4
 unfolding turnFits
-returns-4 c = let u = c .before .before .before .before .before .before .before .args .u in sym (rw (le-leb 1 (u .go) (c .before .before .before .before .before .if1 .left), le-leb (u .go) 3 (c .before .before .before .if2 .left), le-leb (u .requests) 255 (c .before .if3 .left)))
+returns-4 c = let u = c .before .before .before .before .before .before .before .before .args .u in sym (rw (le-leb 1 (u .go) (c .before .before .before .before .before .before .if1 .left), le-leb (u .go) 3 (c .before .before .before .before .if2 .left), le-leb (u .requests) 255 (c .before .before .if3 .left), lt-leb 1 (u .sent) (c .if4 .taken)))
+
+returns-5 : tie.Need-returns-5
+unfolding turnFits
+returns-5 c = let u = c .before .before .before .before .before .before .before .before .before .args .u in sym (rw (le-leb 1 (u .go) (c .before .before .before .before .before .before .before .if1 .left), le-leb (u .go) 3 (c .before .before .before .before .before .if2 .left), le-leb (u .requests) 255 (c .before .before .before .if3 .left), le-leb 1 (u .sent) (c .before .if4 .left)))
 
 pub is-turn-fit-spec : {M : Type 1} → statement M
-is-turn-fit-spec = tie.close (tie.spec returns returns-2 returns-3 returns-4)
+is-turn-fit-spec = tie.close (tie.spec returns returns-2 returns-3 returns-4 returns-5)

@@ -1,10 +1,13 @@
--- `turn::calls::attach`: the slot and the block, as they stand. Assumes nothing.
-use mathlib.Core.Path.{refl}
+-- `turn::calls::attach`: the greeting of a new line. Assumes nothing.
+use borrow.Author.Needs.{needs}
 use Rattle.turn.proofs.calls.attach.Statement.{statement}
 use Rattle.turn.proofs.calls.attach.Tie as tie
 
+send-greeting-requires : tie.Need-send-greeting-requires
+send-greeting-requires c κs = search needs
+
 returns : tie.Need-returns
-returns c = refl
+returns c = c .send-greeting .ensures
 
 pub attach-spec : {M : Type 1} → statement M
-attach-spec = tie.close (tie.spec returns)
+attach-spec = tie.close (tie.spec send-greeting-requires returns)

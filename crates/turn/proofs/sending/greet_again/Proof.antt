@@ -5,14 +5,14 @@ use Rattle.turn.proofs.sending.greet_again.Tie as tie
 use mathlib.Core.Path.{sym, _∙_}
 use borrow.Author.Tests.{lt-ltb, le-ltb}
 
-add-t4 : tie.Need-add-t4
-add-t4 c = search needs
+add-send-greeting : tie.Need-add-send-greeting
+add-send-greeting c = search needs
 
-add-t7 : tie.Need-add-t7
-add-t7 c = search needs
+send-greeting-requires : tie.Need-send-greeting-requires
+send-greeting-requires c κs = search needs
 
 returns : tie.Need-returns
-returns c = sym (rw (lt-ltb (c .before .args .sent) 3 (c .if1 .taken)))
+returns c = c .send-greeting .ensures ∙ sym (rw (lt-ltb (c .before .before .args .sent) 3 (c .before .if1 .taken)))
 
 end-requires : tie.Need-end-requires
 end-requires c κs = search needs
@@ -21,4 +21,5 @@ returns-2 : tie.Need-returns-2
 returns-2 c = c .end .ensures ∙ sym (rw (le-ltb (c .before .before .args .sent) 3 (c .before .if1 .left)))
 
 pub greet-again-spec : {M : Type 1} → statement M
-greet-again-spec = tie.close (tie.spec add-t4 add-t7 returns end-requires returns-2)
+greet-again-spec =
+    tie.close (tie.spec add-send-greeting send-greeting-requires returns end-requires returns-2)
