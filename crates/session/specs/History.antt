@@ -151,6 +151,11 @@ most c = 3 * (272 + c)
 
 -- ---- what holds of each call on a slot of ceiling c, e being the call and h what was before
 
+-- The bound: never more events since the command than 3 × (272 + c), and no answer reports more blocks.
+pub record Bound (c : ℕ) (e : Entry t1) (h : Past) : Type 0 where
+  pub within : events (since (e ∷ h)) ≤ most c
+  pub few : e .answer .sent ≤ most c
+
 pub record Told (c : ℕ) (e : Entry t1) (h : Past) : Type 0 where
   pub sent : e .answer .sent ≡ sentBy e h
   pub delivers : Delivers e (e .input) h
@@ -160,11 +165,13 @@ pub record Told (c : ℕ) (e : Entry t1) (h : Past) : Type 0 where
   -- after an event on a busy slot it is busy, done or ended
   pub onward : stateIn h ≡ 3 → taken e ≡ true → eventIn (e .input) ≡ 1 → Onward (e .answer .state)
   -- a command is done or ended after at most 3 × (272 + c) events: while it is not, there were fewer
-  pub within : events (since (e ∷ h)) ≤ most c
+  pub bound : Bound c e h
   pub busy : stateIn (e ∷ h) ≡ 3 → events (since (e ∷ h)) < most c
-  -- and no answer reports more blocks
-  pub few : e .answer .sent ≤ most c
 
 unfoldable pub AllTold : (c : ℕ) → Past → Type 0
 AllTold c [] = Unit {0}
 AllTold c (e ∷ h) = Told c e h × AllTold c h
+
+unfoldable pub AllBound : (c : ℕ) → Past → Type 0
+AllBound c [] = Unit {0}
+AllBound c (e ∷ h) = Bound c e h × AllBound c h

@@ -1,5 +1,5 @@
--- What is promised of T=1 over a pool, from any rack whose pool is sound: of each slot that starts empty, over any calls on
--- any slots, refused ones among them.
+-- What is promised of T=1 over a pool, from any rack whose pool is sound: of each slot that starts empty, and of each that
+-- starts in a state that keeps the invariant, over any calls on any slots, refused ones among them.
 use Prim.Native.Nat.{ℕ, _≤_, _<_}
 use mathlib.Core.Path.{_≡_}
 use mathlib.Core.Bool.{_&&_}
@@ -14,7 +14,7 @@ use Rattle.session.specs.Call.{Input}
 use Rattle.session.specs.Refusal.{refusal}
 use Rattle.session.specs.Due.{dueIn}
 use Rattle.session.specs.Protocol.{t1}
-use Rattle.session.specs.History.{heldBy, stateIn, AllTold}
+use Rattle.session.specs.History.{heldBy, stateIn, AllTold, AllBound}
 use Rattle.session.specs.Kept.{Kept}
 
 pub record Slot (K : Pool) (r : Rack t1) (i : ℕ) (cs : List (Call t1)) : Type 0 where
@@ -27,8 +27,14 @@ pub record Slot (K : Pool) (r : Rack t1) (i : ℕ) (cs : List (Call t1)) : Type 
   -- and its invariant is kept
   pub kept : Kept (run K t1 r cs i)
 
+-- from any state that keeps the invariant: it is kept on, and the bound holds
+pub record Later (K : Pool) (r : Rack t1) (i : ℕ) (cs : List (Call t1)) : Type 0 where
+  pub kept : Kept (run K t1 r cs i)
+  pub bound : AllBound (K .ceiling i) (logOn K t1 i r [] cs)
+
 pub record Promised (K : Pool) (r : Rack t1) : Type 0 where
   pub shares : Demand3 K t1 r
   -- whose calls ask for a cell exactly for an I-block that is the next one due, where they are not refused
   pub due : (i : ℕ) (s : State) (x : Input) → t1 .asks i s x ≡ (eqb (refusal s x) 0 && dueIn s x)
   pub slots : (i : ℕ) → i < K .holders → r i ≡ empty → (cs : List (Call t1)) → Slot K r i cs
+  pub later : (i : ℕ) → i < K .holders → Kept (r i) → (cs : List (Call t1)) → Later K r i cs
