@@ -7,7 +7,7 @@ use Prim.Native.Nat.{ℕ}
 use mathlib.Core.Path.{ap}
 
 -- the talk with another r
-numbered : Talk → ℕ → Talk
+abbrev numbered : Talk → ℕ → Talk
 numbered t r = record {
   line = record { ifsc = t .line .ifsc; bwt = t .line .bwt; s = t .line .s; r = r };
   cut = t .cut;
