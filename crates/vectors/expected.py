@@ -1,12 +1,13 @@
 #!/usr/bin/env python3
-"""What `vectors` must print, worked out from document 01 ("Reading an ATR", "Reading a block", "Shares", P1 to P12) and,
-for the pool's bytes, docs/LAYOUT.md.
+"""What `vectors` must print, worked out from document 01 ("Reading an ATR", "Reading a block", "A session", "Shares", P1 to
+P12) and, for the pool's bytes, docs/LAYOUT.md.
 
 Nothing here is taken from the Rattle side or from its output: what the paper prints stands as it prints it, and the
 rest goes by a reading of the paper's sentences. docs/VECTORS.md says more.
 
     expected.py          what the program prints
-    expected.py stdin    what it reads: the ATRs of atrs.txt, each behind its length in one byte
+    expected.py stdin    what it reads: the ATRs of atrs.txt, each behind its length in one byte, all behind their length in
+                         two; and the script of the sessions (script.py)
 """
 import sys
 from functools import reduce
@@ -14,48 +15,12 @@ from pathlib import Path
 
 sys.dont_write_bytecode = True
 from pool import Pool, Raw, opens, sound  # noqa: E402
+from reading import framed, read, report  # noqa: E402
+from script import Script  # noqa: E402
 
 LIST = Path(__file__).with_name("atrs.txt")
 
-I_CODES = [0x00, 0x20, 0x40, 0x60]
-R_CODES = [0x80, 0x81, 0x82, 0x90, 0x91, 0x92]
 NAMES = ["I", "R", "IFS request", "IFS response", "abort", "WTX", "EDC", "other"]
-
-
-def xor(bs):
-    return reduce(lambda a, b: a ^ b, bs, 0)
-
-
-def framed(pcb, inf):
-    """NAD, PCB, LEN, INF, LRC; LRC makes the exclusive or of the whole block 0."""
-    body = [0, pcb, len(inf)] + inf
-    return body + [xor(body)]
-
-
-def read(kind, block):
-    """(name, detail, INF) of an event, its tests in the paper's order."""
-    other, edc = ("other", "", []), ("EDC", "", [])
-    if kind != 0:
-        return edc if kind == 1 else other
-    if len(block) < 4 or len(block) != 4 + block[2] or block[2] > 254:
-        return other
-    if xor(block) != 0:
-        return edc
-    if block[0] != 0:
-        return other
-    pcb, inf = block[1], block[3:-1]
-    if pcb in I_CODES and 1 <= len(inf) <= 254:
-        more = "more" if pcb & 0b00100000 else "last"
-        return "I", f" {more} {pcb >> 6 & 1:02x}", inf
-    if pcb in R_CODES and inf == []:
-        return "R", f" {pcb >> 4 & 1:02x}", inf
-    if pcb in (0xC1, 0xE1) and len(inf) == 1 and 0x10 <= inf[0] <= 0xFE:
-        return ("IFS request" if pcb == 0xC1 else "IFS response"), f" {inf[0]:02x}", inf
-    if pcb == 0xC2 and inf == []:
-        return "abort", "", inf
-    if pcb == 0xC3 and len(inf) == 1 and 0x01 <= inf[0] <= 0xFF:
-        return "WTX", f" {inf[0]:02x}", inf
-    return other
 
 
 # P1 to P6 with what the paper says of each
@@ -68,69 +33,13 @@ PAPER = [
     ("3C", ["refused 8"]),
 ]
 
-F = [372, 372, 558, 744, 1116, 1488, 1860, 0, 0, 512, 768, 1024, 1536, 2048, 0, 0]
-D = [0, 1, 2, 4, 8, 16, 32, 64, 12, 20, 0, 0, 0, 0, 0, 0]
-
-
-def walked(atr):
-    """The interface bytes by name, whether TCK is there, and what lies behind the groups; None if the bytes end first."""
-    named, number, rest = {}, 1, iter(atr[2:])
-    announcer, tck = atr[1], False
-    while announcer is not None:
-        for letter, bit in zip("ABCD", (5, 6, 7, 8)):
-            if announcer >> (bit - 1) & 1:
-                value = next(rest, None)
-                if value is None:
-                    return None
-                named[f"T{letter}{number}"] = value
-        announcer = named.get(f"TD{number}")
-        tck = tck or (announcer is not None and announcer % 16 != 0)
-        number += 1
-    return named, tck, list(rest)
-
-
-def on_terms(get):
-    """11 and 12, in the paper's order; else None."""
-    ta1, tc1, td1, ta2, td2 = (get(n) for n in ("TA1", "TC1", "TD1", "TA2", "TD2"))
-    ta3, tb3, tc3 = (get(n) for n in ("TA3", "TB3", "TC3"))
-    if td1 is None or td1 & 15 != 1 or (td2 is not None and td2 & 15 != 1):
-        return 11
-    if ta2 is not None and (ta2 & 0b00010000 or ta2 & 15 != 1):
-        return 11
-    if None not in (ta1, ta2) and ta1 not in (0x11, 0x12, 0x13):
-        return 12
-    if ta3 is not None and (ta3 <= 0x0F or ta3 == 0xFF):
-        return 12
-    if tb3 is None or tb3 >> 4 > 4 or tb3 & 15 > 5 or 2 ** (tb3 & 15) < guard(tc1) + 1:
-        return 12
-    return 12 if tc3 not in (None, 0) else None
-
-
-def guard(tc1):
-    """N: TC1, absent 0, and -1 for FF."""
-    return {None: 0, 0xFF: -1}.get(tc1, tc1)
-
 
 def attached(atr):
     """What an ATR is read as, in words."""
-    if atr and atr[0] not in (0x3B, 0x3F):
-        return "refused 8"
-    walk = walked(atr) if len(atr) >= 2 else None
-    if walk is None or len(atr) > 33 or len(walk[2]) != atr[1] % 16 + walk[1]:
-        return "refused 9"
-    named, tck, _ = walk
-    if tck and xor(atr[1:]) != 0:
-        return "refused 10"
-    number = on_terms(named.get)
-    if number:
-        return f"refused {number}"
-    ta1, tb3 = named.get("TA1"), named["TB3"]
-    used = {0x11: 1, 0x12: 2, 0x13: 4}[ta1] if "TA1" in named and "TA2" in named else 1
-    f, d = (372, 1) if ta1 is None else (F[ta1 >> 4], D[ta1 & 15])
-    return (
-        f"IFSC {named.get('TA3', 32)} distance {12 + guard(named.get('TC1'))} CWT {2 ** (tb3 & 15) + 11}"
-        f" BWT {960 * 2 ** (tb3 >> 4) + 11} D {used} historical {atr[1] % 16} offers F {f} D {d}"
-    )
+    told = report(atr)
+    if isinstance(told, int):
+        return f"refused {told}"
+    return " ".join(f"{name} {n}" for name, n in told.items()).replace("offers D", "D")
 
 
 def listed():
@@ -334,8 +243,18 @@ def cells():
         print(hexed(end))
 
 
+def given(played):
+    """Standard input; the program reads 65,536 bytes at most."""
+    cards = b"".join(bytes([len(a), *a]) for a in listed())
+    whole = len(cards).to_bytes(2, "big") + cards + bytes(played.bytes)
+    assert len(whole) <= 65536
+    return whole
+
+
+script = Script()
+script.play()
 if sys.argv[1:] == ["stdin"]:
-    sys.stdout.buffer.write(b"".join(bytes([len(a), *a]) for a in listed()))
+    sys.stdout.buffer.write(given(script))
 else:
     paper()
     limits()
@@ -344,3 +263,4 @@ else:
     print("the list")
     for a in listed():
         card(a)
+    print("\n".join(script.printed))

@@ -1,4 +1,4 @@
-// ATRs: P1 to P6, and those of the list on standard input, each behind its length in one byte.
+// ATRs: P1 to P6, and those of a list, each behind its length in one byte.
 ghost use Prim.Native.Nat.{_≤_};
 ghost use lib.ListN.{length};
 
@@ -33,9 +33,9 @@ fn each(list: &[u8])
     }
 }
 
-pub(crate) fn listed() {
+pub(crate) fn listed(list: &[u8]) {
     super::print::text(b"the list\n");
-    let mut space = io::large_buffer();
-    let n = io::read_full(0, &mut space);
-    each(&space[..n]);
+    if list.len() <= 65536 {
+        each(list);
+    }
 }

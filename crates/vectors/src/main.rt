@@ -5,6 +5,8 @@ mod cells;
 mod codec;
 mod print;
 mod runs;
+mod script;
+mod sessions;
 
 fn pools() {
     let mut region = [170u8; 25464];
@@ -15,11 +17,21 @@ fn pools() {
     runs::lengths();
 }
 
+// Standard input: the length of the list of ATRs in two bytes, high byte first, the list, and the script of the sessions.
+fn inputs() {
+    let mut space = io::large_buffer();
+    let n = io::read_full(0, &mut space);
+    let given = &space[..n];
+    let size = lent::get16(given, 0) as usize;
+    cards::listed(lent::part(given, 2, size));
+    script::played(lent::part(given, size + 2, n));
+}
+
 fn main() {
     cards::paper();
     codec::paper();
     codec::limits();
     codec::every_code();
     pools();
-    cards::listed();
+    inputs();
 }

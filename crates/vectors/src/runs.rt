@@ -3,14 +3,14 @@
 ghost use Prim.Native.Nat.{_≤_, _<_};
 
 // One figure for all that went before and v.
-fn folded(d: usize, v: usize) -> usize
+pub(crate) fn folded(d: usize, v: usize) -> usize
     requires { ⌜ (d < 65521) × (v < 1000000) ⌝ }
     ensures { λ r. ⌜ r < 65521 ⌝ }
 {
     (d * 31 + v) % 65521
 }
 
-fn bytes_folded(s: &[u8]) -> usize
+pub(crate) fn bytes_folded(s: &[u8]) -> usize
     ensures { λ r. ⌜ r < 65521 ⌝ }
 {
     let mut d: usize = 0;
@@ -45,7 +45,7 @@ fn done(r: &mut [u8], i: usize, x: usize) -> usize
     2
 }
 
-fn three_if_sound(r: &[u8]) -> usize
+pub(crate) fn three_if_sound(r: &[u8]) -> usize
     ensures { λ n. ⌜ n ≤ 3 ⌝ }
 {
     if region::is_sound(r) { 3 } else { 0 }

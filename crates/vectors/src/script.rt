@@ -1,0 +1,155 @@
+// Sessions played from a script. A line of it is four bytes and what a call is made with: which call, a number, and the
+// length behind them, high byte first. Where the first byte has b8 set the call is folded and not printed.
+ghost use Prim.Native.Nat.{_≤_};
+ghost use lib.ListN.{length};
+use super::sessions::Step;
+use slot::Slot;
+
+// The slot, and the figure for the calls since the last name.
+struct Seat {
+    slot: Slot,
+    figure: u16,
+}
+
+// Open, and what other holders do.
+fn around(r: &mut [u8], slot: Slot, op: u8, a: u8, bytes: &[u8]) -> Step {
+    if op == 6 {
+        return super::sessions::open(r, slot, bytes);
+    }
+    if op == 7 {
+        pool::append(r, a as usize, bytes);
+        return super::sessions::still(slot, 0);
+    }
+    pool::release(r, a as usize);
+    super::sessions::still(slot, 0)
+}
+
+fn call(
+    r: &mut [u8],
+    slot: Slot,
+    kept: &mut [u8],
+    op: u8,
+    a: u8,
+    bytes: &[u8],
+    out: &mut [u8],
+) -> Step {
+    match op {
+        1 => super::sessions::attach(slot, bytes, out),
+        2 => super::sessions::command(slot, kept, bytes, out),
+        3 => super::sessions::event(r, slot, kept, a, bytes, out),
+        4 => super::sessions::collect(r, slot, lent::get16(bytes, 0) as usize, out),
+        5 => super::sessions::remove(r, slot),
+        _ => around(r, slot, op, a, bytes),
+    }
+}
+
+// The numbers of an answer, the slot's state second, and what then is held, free and sound.
+fn numbers(r: &[u8], step: Step) -> [usize; 9] {
+    let next = step.next;
+    let slot = next.slot;
+    [
+        step.number as usize,
+        super::sessions::state_of(slot) as usize,
+        next.ending as usize,
+        next.sent as usize,
+        step.length,
+        next.wait as usize,
+        region::held(r, 0) as usize,
+        region::free(r) as usize,
+        super::runs::three_if_sound(r),
+    ]
+}
+
+// Prints numbers if they are wanted, and folds them, each as two, and then all of the output.
+fn told(figure: u16, numbers: &[usize; 9], out: &[u8], loud: bool) -> u16 {
+    let mut d = (figure as usize) % 65521;
+    let mut i: usize = 0;
+    while i < 9 {
+        let n = numbers[i];
+        if loud {
+            super::print::number(n as u64);
+        }
+        d = super::runs::folded(d, n / 65536 % 65536);
+        d = super::runs::folded(d, n % 65536);
+        i += 1;
+    }
+    super::runs::folded(d, super::runs::bytes_folded(out)) as u16
+}
+
+// The name of a call, in eight letters; none of one that is not printed.
+fn name(op: u8) {
+    let names = b"        attach  command event   collect remove  open    append  release ";
+    super::print::text(lent::part(names, (op as usize) * 8, 8));
+}
+
+fn written(out: &[u8], loud: bool) {
+    if loud {
+        super::print::text(b":");
+        super::print::bytes(out);
+        super::print::text(b"\n");
+    }
+}
+
+// Makes a call with an output of bytes AA.
+fn play(r: &mut [u8], seat: Seat, kept: &mut [u8], op: u8, a: u8, bytes: &[u8]) -> Seat {
+    let mut out = [170u8; 600];
+    let slot = seat.slot;
+    let step = call(r, slot, kept, op % 128, a, bytes, &mut out);
+    name(op);
+    let figure = told(seat.figure, &numbers(r, step), &out, op < 128);
+    written(lent::part(&out, 0, step.length), op < 128);
+    let next = step.next;
+    let then = next.slot;
+    Seat {
+        slot: then,
+        figure: figure,
+    }
+}
+
+// The figure of the run that ends, and the name of the next.
+fn named(figure: u16, bytes: &[u8]) {
+    super::print::text(b"figure");
+    super::print::number(figure as u64);
+    super::print::text(b"\n");
+    super::print::text(bytes);
+    super::print::text(b"\n");
+}
+
+fn line(r: &mut [u8], seat: Seat, kept: &mut [u8], op: u8, a: u8, bytes: &[u8]) -> Seat {
+    if op == 0 {
+        named(seat.figure, bytes);
+        let slot = seat.slot;
+        return Seat {
+            slot: slot,
+            figure: 0,
+        };
+    }
+    play(r, seat, kept, op, a, bytes)
+}
+
+// Each line of a script.
+fn each(r: &mut [u8], script: &[u8])
+    requires { ⌜ length (now script) ≤ 65536 ⌝ }
+{
+    let mut kept = [0u8; 261];
+    let mut seat = Seat {
+        slot: Slot::Empty,
+        figure: 0,
+    };
+    let mut at: usize = 0;
+    while at < script.len() {
+        let op = lent::get8(script, at);
+        let a = lent::get8(script, at + 1);
+        let n = lent::get16(script, at + 2) as usize;
+        seat = line(r, seat, &mut kept, op, a, lent::part(script, at + 4, n));
+        at += n + 4;
+    }
+}
+
+pub(crate) fn played(script: &[u8]) {
+    let mut region = [170u8; 25464];
+    super::print::text(b"sessions\n");
+    if script.len() <= 65536 {
+        each(&mut region, script);
+    }
+}
