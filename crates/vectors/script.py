@@ -5,9 +5,10 @@ byte first. Calls: 1 attach, 2 command, 3 event of the number's kind, 4 collect 
 behind it say, 5 remove, 6 open with eight shares and eight ceilings, 7 the number's holder appends a piece, 8 it releases
 its cells; 0 prints the figure for the calls since the last 0, and a name. With 128 added a call is folded and not printed.
 """
+from contextlib import contextmanager
 from functools import reduce
 
-from reading import framed, read
+from reading import framed
 from session import BUSY, DONE, EMPTY, ENDED, GREETING, READY, Answer, Slot
 
 CALLS = ["", "attach", "command", "event", "collect", "remove", "open", "append", "release"]
@@ -51,7 +52,7 @@ class Script:
 
     def __init__(self):
         self.bytes, self.printed, self.slot = bytearray(), ["sessions"], Slot()
-        self.figure, self.loud, self.calls = 0, True, 0
+        self.figure, self.loud, self.calls, self.endings = 0, True, 0, set()
 
     def line(self, op, a=0, bs=b""):
         self.bytes += bytes([op, a, len(bs) // 256, len(bs) % 256]) + bytes(bs)
@@ -66,6 +67,7 @@ class Script:
         self.line(op + (0 if self.loud else 128), a, bs)
         self.calls += 1
         answer = self.answered(op, a, bs)
+        self.endings.add(answer.ending)
         pool = self.slot.pool
         # a refusal's other fields are 0, and the slot stays as it was: its state is shown in any case
         assert answer.number or answer.state == self.slot.state
@@ -95,6 +97,13 @@ class Script:
         if op == COLLECT:
             return slot.collect(bs[0] * 256 + bs[1])
         return slot.remove() if op == REMOVE else (slot.attach if op == ATTACH else slot.command)(bs)
+
+    @contextmanager
+    def quiet(self):
+        """Calls that are folded and not printed."""
+        self.loud = False
+        yield
+        self.loud = True
 
     def play(self):
         for run in RUNS:
@@ -134,10 +143,9 @@ class Script:
     def run(self, name, atr=CARD_32):
         """A fresh pool and a card that is ready, not printed."""
         self.name(name)
-        self.loud = False
-        self.open()
-        self.ready(atr)
-        self.loud = True
+        with self.quiet():
+            self.open()
+            self.ready(atr)
 
     def acknowledged(self):
         """The card takes each I-block of a chain."""
@@ -224,7 +232,7 @@ def requests(x):
     """The 255th request is answered, and the 256th ends; the next command counts anew."""
     for name, last in (("255 requests", 255), ("256 requests", 256)):
         x.run(name)
-        for again in range(2 if last == 255 else 1):
+        for _ in range(2 if last == 255 else 1):
             x.command(long_command(45, 40))
             for n in range(1, last + 1):
                 x.loud = n < 4 or n > 253
@@ -265,13 +273,11 @@ def goes(x):
         x.remove()
     x.name("invalid while greeting")
     for event in (S(0xC1, 0xFE), S(0xC3, 1), I(0, [1]), R(0), R(1, 1), S(0xE1, 0x10), S(0xC2, 1)):
-        x.loud = False
-        x.attach(CARD_32)
-        x.loud = True
+        with x.quiet():
+            x.attach(CARD_32)
         x.receive(event)
-        x.loud = False
-        x.remove()
-    x.loud = True
+        with x.quiet():
+            x.remove()
     for name, start, faults in (
         ("an I-block that the card asks for", plain, [(0, R(0)), (0, R(0, 1)), (0, R(0, 2))]),
         ("an R for EDC", plain, [(1, b""), (2, b""), (0, b"\0\0\1\1\1")]),
@@ -419,11 +425,10 @@ def no_cell(x):
     ):
         x.name(name)
         x.open(shares, ceilings)
-        for holder, n in others.items():
-            x.loud = False
-            for _ in range(n):
-                x.call(APPEND, holder, b"\x11")
-            x.loud = True
+        with x.quiet():
+            for holder, n in others.items():
+                for _ in range(n):
+                    x.call(APPEND, holder, b"\x11")
         x.ready()
         x.command(SELECT)
         for k in range(pieces):
@@ -436,6 +441,14 @@ def no_cell(x):
 
 def refusals(x):
     """Each call in each state that does not suit it, and the other numbers."""
+    onward = {
+        EMPTY: [(ATTACH, CARD_32)],
+        GREETING: [(EVENT, S(0xE1, 0xFE))],
+        READY: [(COMMAND, SELECT)],
+        BUSY: [(EVENT, I(0, FINE))],
+        DONE: [(COLLECT, b"\0\2"), (COMMAND, SELECT), (EVENT, S(0xC2))],
+        ENDED: [],
+    }
     x.name("wrong states")
     x.open()
     for state in (EMPTY, GREETING, READY, BUSY, DONE, ENDED):
@@ -454,30 +467,17 @@ def refusals(x):
             x.collect(0)
         if state == EMPTY:
             x.remove()
-        x.loud = False
-        if state == EMPTY:
-            x.attach(CARD_32)
-        elif state == GREETING:
-            x.receive(S(0xE1, 0xFE))
-        elif state == READY:
-            x.command(SELECT)
-        elif state == BUSY:
-            x.receive(I(0, FINE))
-        elif state == DONE:
-            x.collect(2)
-            x.command(SELECT)
-            x.receive(S(0xC2))
-        x.loud = True
+        with x.quiet():
+            for op, bs in onward[state]:
+                x.call(op, 0, bs)
     x.remove()
     x.name("remove from each state")
     x.open()
-    for made in range(5):
-        x.loud = False
-        x.attach(CARD_32)
-        for step in range(made):
-            (lambda: x.receive(S(0xE1, 0xFE)), lambda: x.command(SELECT), lambda: x.receive(I(0, FINE, more=True)),
-             lambda: x.receive(I(1, FINE)))[step]()  # fmt: skip
-        x.loud = True
+    for state in (GREETING, READY, BUSY, DONE, ENDED):
+        with x.quiet():
+            while x.slot.state != state:
+                for op, bs in onward[x.slot.state]:
+                    x.call(op, 0, bs)
         x.remove()
     x.name("kinds")
     x.open()
@@ -599,6 +599,8 @@ def a_command(dice):
 
 
 CARDS = [CARD_32, CARD_254, CARD_16, CARD_16]
+# 8, 9, 10, 11 and 12
+REFUSED = [b"\x3C", CARD_32[:-1], CARD_32[:-1] + b"\0", b"\x3B\0", bytes.fromhex("3B E0 00 01 81 31 20 40 31")]
 LIMITS = [
     ([12] * 8, [96] * 8),
     ([3] + [13] * 7, [5] + [20] * 7),
@@ -621,8 +623,9 @@ def others(x, dice):
 def anything(x, dice):
     """A call that need not suit the state."""
     op = dice.of([ATTACH, COMMAND, EVENT, EVENT, COLLECT, REMOVE])
-    bs = {ATTACH: dice.of([CARD_32, dice.bytes(3)]), COMMAND: dice.bytes(4), EVENT: R(0), COLLECT: dice.of([b"\0\0", b"\2\x58"])}
-    return x.call(op, dice.below(5) if op == EVENT else 0, bs.get(op, b""))
+    atr, room = dice.of([CARD_32, dice.bytes(3)]), dice.of([b"\0\0", b"\2\x58"])
+    bs = {ATTACH: atr, COMMAND: dice.bytes(4), EVENT: R(0), COLLECT: room, REMOVE: b""}
+    x.call(op, dice.below(5) if op == EVENT else 0, bs[op])
 
 
 def session(x, dice):
@@ -655,19 +658,20 @@ def session(x, dice):
             before = block
     x.remove()
     if dice.one_in(4):
-        x.attach(dice.of([b"\x3C", CARD_32[:-1], CARD_32[:-1] + b"\0", b"\x3B\0", bytes.fromhex("3B E0 00 01 81 31 20 40 31")]))
+        x.attach(dice.of(REFUSED))
 
 
 def random(x):
     """Sessions one behind the other, five times, each time in another pool."""
+    x.endings = set()
     for seed, (shares, ceilings) in enumerate(LIMITS):
         dice, first = Dice(seed), x.calls
         x.name(f"cards, pool {seed}")
-        x.loud = False
-        x.open(shares, ceilings)
-        while x.calls < first + 500:
-            session(x, dice)
-        x.loud = True
+        with x.quiet():
+            x.open(shares, ceilings)
+            while x.calls < first + 500:
+                session(x, dice)
+    assert x.endings == {0, 20, 21, 22, 23}
 
 
 RUNS = [paper, forms, requests, goes, chains, no_rows, no_cell, refusals, random]

@@ -25,13 +25,16 @@ fn receives(kind: u64, s: &[u8]) {
     shown(kind, s);
 }
 
-pub(crate) fn paper() {
+fn seven_and_eight() {
     super::print::text(b"P7\n");
     sends(0xC1, b"\xFE");
     receives(0, b"\x00\xE1\x01\xFE\x1E");
     super::print::text(b"P8\n");
     sends(0x00, b"\x00\xA4\x04\x00");
     receives(0, b"\x00\x00\x02\x90\x00\x92");
+}
+
+fn nine_and_ten() {
     super::print::text(b"P9\n");
     receives(1, b"\x00\x00\x02\x90\x00\x92");
     sends(0x81, b"");
@@ -40,6 +43,11 @@ pub(crate) fn paper() {
     super::print::text(b"P10\n");
     receives(0, b"\x00\xC3\x01\x03\xC1");
     sends(0xE3, b"\x03");
+}
+
+pub(crate) fn paper() {
+    seven_and_eight();
+    nine_and_ten();
 }
 
 // An I-block of LEN zeros, its length and its LRC right: LEN is the exclusive or of it all.

@@ -1,5 +1,5 @@
-// Document 01's bytes to test with, a pool at work, and a list of ATRs, run: prints what the product reads, builds and
-// keeps. `stdout` beside src/ holds what it must print, worked out apart from the product (docs/VECTORS.md).
+// Document 01's bytes to test with, a pool at work, a list of ATRs, and sessions, run: prints what the product reads, builds,
+// keeps and answers. `stdout` beside src/ holds what it must print, worked out apart from the product (docs/VECTORS.md).
 mod cards;
 mod cells;
 mod codec;

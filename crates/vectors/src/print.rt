@@ -27,33 +27,28 @@ pub(crate) fn number(n: u64) {
     io::print_decimal(1, n);
 }
 
+// A name and a byte.
+fn coded(name: &[u8], b: u8) {
+    text(name);
+    byte(b);
+}
+
+fn i_block(number: u8, more: bool) {
+    if more {
+        coded(b"I more", number);
+    } else {
+        coded(b"I last", number);
+    }
+}
+
 pub(crate) fn event(e: Event) {
     match e {
-        Event::I { number, more } => {
-            if more {
-                text(b"I more");
-            } else {
-                text(b"I last");
-            }
-            byte(number);
-        }
-        Event::R { number } => {
-            text(b"R");
-            byte(number);
-        }
-        Event::IfsRequest { size } => {
-            text(b"IFS request");
-            byte(size);
-        }
-        Event::IfsResponse { size } => {
-            text(b"IFS response");
-            byte(size);
-        }
+        Event::I { number, more } => i_block(number, more),
+        Event::R { number } => coded(b"R", number),
+        Event::IfsRequest { size } => coded(b"IFS request", size),
+        Event::IfsResponse { size } => coded(b"IFS response", size),
         Event::Abort => text(b"abort"),
-        Event::Wtx { times } => {
-            text(b"WTX");
-            byte(times);
-        }
+        Event::Wtx { times } => coded(b"WTX", times),
         Event::Edc => text(b"EDC"),
         Event::Other => text(b"other"),
     }
@@ -65,11 +60,14 @@ fn figure(name: &[u8], n: u64) {
     number(n);
 }
 
-fn report(r: Report) {
+fn times(r: Report) {
     figure(b"IFSC", r.ifsc as u64);
     figure(b" distance", r.distance as u64);
     figure(b" CWT", r.cwt as u64);
     figure(b" BWT", r.bwt as u64);
+}
+
+fn rates(r: Report) {
     figure(b" D", r.used as u64);
     figure(b" historical", r.historical as u64);
     figure(b" offers F", r.f as u64);
@@ -79,6 +77,9 @@ fn report(r: Report) {
 pub(crate) fn answer(a: Answer) {
     match a {
         Answer::Refused { number: n } => figure(b"refused", n as u64),
-        Answer::Taken { report: r } => report(r),
+        Answer::Taken { report: r } => {
+            times(r);
+            rates(r);
+        }
     }
 }

@@ -24,27 +24,40 @@ fn around(r: &mut [u8], slot: Slot, op: u8, a: u8, bytes: &[u8]) -> Step {
     super::sessions::still(slot, 0)
 }
 
-fn call(
-    r: &mut [u8],
-    slot: Slot,
-    kept: &mut [u8],
-    op: u8,
-    a: u8,
-    bytes: &[u8],
-    out: &mut [u8],
-) -> Step {
+fn call(r: &mut [u8], slot: Slot, op: u8, a: u8, bytes: &[u8], out: &mut [u8]) -> Step {
     match op {
-        1 => super::sessions::attach(slot, bytes, out),
-        2 => super::sessions::command(slot, kept, bytes, out),
-        3 => super::sessions::event(r, slot, kept, a, bytes, out),
+        1 => super::sessions::attach(slot, bytes),
+        2 => super::sessions::command(slot, bytes),
+        3 => super::sessions::event(r, slot, a, bytes),
         4 => super::sessions::collect(r, slot, lent::get16(bytes, 0) as usize, out),
         5 => super::sessions::remove(r, slot),
         _ => around(r, slot, op, a, bytes),
     }
 }
 
+// The bytes of a command that was not refused are kept, for the blocks to come.
+fn keep(kept: &mut [u8], op: u8, number: u8, bytes: &[u8]) {
+    if op % 128 != 2 {
+        return;
+    }
+    if number == 0 {
+        lent::put(kept, 0, bytes);
+    }
+}
+
+// The block, if there is one, goes to the front of the output. The length of it or of the response.
+fn place(out: &mut [u8], step: Step, kept: &[u8]) -> usize {
+    let next = step.next;
+    let block = next.send;
+    let n = slot::send(out, block, kept);
+    if n == 0 {
+        return step.length;
+    }
+    n
+}
+
 // The numbers of an answer, the slot's state second, and what then is held, free and sound.
-fn numbers(r: &[u8], step: Step) -> [usize; 9] {
+fn numbers(r: &[u8], step: Step, length: usize) -> [usize; 9] {
     let next = step.next;
     let slot = next.slot;
     [
@@ -52,7 +65,7 @@ fn numbers(r: &[u8], step: Step) -> [usize; 9] {
         super::sessions::state_of(slot) as usize,
         next.ending as usize,
         next.sent as usize,
-        step.length,
+        length,
         next.wait as usize,
         region::held(r, 0) as usize,
         region::free(r) as usize,
@@ -60,13 +73,20 @@ fn numbers(r: &[u8], step: Step) -> [usize; 9] {
     ]
 }
 
-// Prints numbers if they are wanted, and folds them, each as two, and then all of the output.
-fn told(figure: u16, numbers: &[usize; 9], out: &[u8], loud: bool) -> u16 {
+// The name of a call, in eight letters; none of one that is not printed.
+fn name(op: u8) {
+    let names = b"        attach  command event   collect remove  open    append  release ";
+    super::print::text(lent::part(names, (op as usize) * 8, 8));
+}
+
+// Prints name and numbers if they are wanted, and folds the numbers, each as two, and then all of the output.
+fn told(figure: u16, numbers: &[usize; 9], out: &[u8], op: u8) -> u16 {
+    name(op);
     let mut d = (figure as usize) % 65521;
     let mut i: usize = 0;
     while i < 9 {
         let n = numbers[i];
-        if loud {
+        if op < 128 {
             super::print::number(n as u64);
         }
         d = super::runs::folded(d, n / 65536 % 65536);
@@ -76,14 +96,8 @@ fn told(figure: u16, numbers: &[usize; 9], out: &[u8], loud: bool) -> u16 {
     super::runs::folded(d, super::runs::bytes_folded(out)) as u16
 }
 
-// The name of a call, in eight letters; none of one that is not printed.
-fn name(op: u8) {
-    let names = b"        attach  command event   collect remove  open    append  release ";
-    super::print::text(lent::part(names, (op as usize) * 8, 8));
-}
-
-fn written(out: &[u8], loud: bool) {
-    if loud {
+fn written(out: &[u8], op: u8) {
+    if op < 128 {
         super::print::text(b":");
         super::print::bytes(out);
         super::print::text(b"\n");
@@ -94,10 +108,11 @@ fn written(out: &[u8], loud: bool) {
 fn play(r: &mut [u8], seat: Seat, kept: &mut [u8], op: u8, a: u8, bytes: &[u8]) -> Seat {
     let mut out = [170u8; 600];
     let slot = seat.slot;
-    let step = call(r, slot, kept, op % 128, a, bytes, &mut out);
-    name(op);
-    let figure = told(seat.figure, &numbers(r, step), &out, op < 128);
-    written(lent::part(&out, 0, step.length), op < 128);
+    let step = call(r, slot, op % 128, a, bytes, &mut out);
+    keep(kept, op, step.number, bytes);
+    let length = place(&mut out, step, kept);
+    let figure = told(seat.figure, &numbers(r, step, length), &out, op);
+    written(lent::part(&out, 0, length), op);
     let next = step.next;
     let then = next.slot;
     Seat {

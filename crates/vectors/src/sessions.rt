@@ -5,7 +5,7 @@ use slot::Next;
 use slot::Send;
 use slot::Slot;
 
-// What a call answers: its number, the length written to the output, and what comes next.
+// What a call answers: its number, the length of the response that it wrote to the output, and what comes next.
 pub(crate) struct Step {
     pub(crate) number: u8,
     pub(crate) length: usize,
@@ -40,53 +40,42 @@ pub(crate) fn still(slot: Slot, number: u8) -> Step {
     }
 }
 
-// A call that was not refused: its block, if there is one, goes to the front of the output.
-fn made(next: Next, kept: &[u8], out: &mut [u8]) -> Step {
-    let block = next.send;
-    let length = slot::send(out, block, kept);
+// A call that was not refused.
+fn made(next: Next) -> Step {
     Step {
         number: 0,
-        length: length,
+        length: 0,
         next: next,
     }
 }
 
-pub(crate) fn attach(slot: Slot, bytes: &[u8], out: &mut [u8]) -> Step {
+pub(crate) fn attach(slot: Slot, bytes: &[u8]) -> Step {
     if state_of(slot) != 0 {
         return still(slot, 4);
     }
     let answer = atr::read(bytes);
     match answer {
         Answer::Refused { number } => still(slot, number),
-        Answer::Taken { report } => made(turn::attach(report), b"", out),
+        Answer::Taken { report } => made(turn::attach(report)),
     }
 }
 
-// The command's bytes are kept at the front of `kept`, for the blocks to come.
-pub(crate) fn command(slot: Slot, kept: &mut [u8], bytes: &[u8], out: &mut [u8]) -> Step {
+pub(crate) fn command(slot: Slot, bytes: &[u8]) -> Step {
     let Slot::Ready { line } = slot else {
         return still(slot, 4);
     };
     if slot::is_command(bytes) {
-        lent::put(kept, 0, bytes);
-        return made(turn::command(line, bytes), kept, out);
+        return made(turn::command(line, bytes));
     }
     still(slot, 7)
 }
 
-pub(crate) fn event(
-    r: &mut [u8],
-    slot: Slot,
-    kept: &[u8],
-    kind: u8,
-    bytes: &[u8],
-    out: &mut [u8],
-) -> Step {
+pub(crate) fn event(r: &mut [u8], slot: Slot, kind: u8, bytes: &[u8]) -> Step {
     if let Slot::Greeting { line, sent } = slot {
         if kind > 2 {
             return still(slot, 6);
         }
-        return made(terminal::greet(line, sent, kind as u64, bytes), kept, out);
+        return made(terminal::greet(line, sent, kind as u64, bytes));
     }
     let Slot::Busy { talk } = slot else {
         return still(slot, 4);
@@ -94,7 +83,7 @@ pub(crate) fn event(
     if kind > 2 {
         return still(slot, 6);
     }
-    made(terminal::event(r, 0, talk, kind as u64, bytes), kept, out)
+    made(terminal::event(r, 0, talk, kind as u64, bytes))
 }
 
 // Collects into the first n bytes of the output: 5 if they are too few, and the slot is still done.
@@ -122,11 +111,7 @@ pub(crate) fn remove(r: &mut [u8], slot: Slot) -> Step {
     if state_of(slot) == 0 {
         return still(slot, 4);
     }
-    Step {
-        number: 0,
-        length: 0,
-        next: terminal::remove(r, 0),
-    }
+    made(terminal::remove(r, 0))
 }
 
 // Open, with eight shares and then eight ceilings.

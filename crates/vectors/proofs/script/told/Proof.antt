@@ -6,10 +6,13 @@ use Rattle.vectors.proofs.script.told.Statement.{statement}
 use Rattle.vectors.proofs.script.told.Tie as tie
 
 abbrev Inv-loop : tie.InvT-loop
-Inv-loop figure numbers out loud d₀ i₀ d i = (i ≤ 9) × (d < 65521)
+Inv-loop figure numbers out op d₀ i₀ d i = (i ≤ 9) × (d < 65521)
 
 abbrev μ-loop : tie.MeasureT-loop
-μ-loop figure numbers out loud d₀ i₀ d i = 9 - i
+μ-loop figure numbers out op d₀ i₀ d i = 9 - i
+
+name-requires : tie.Need-name-requires Inv-loop μ-loop
+name-requires c κs = search needs
 
 loop-holds : tie.Need-loop-holds Inv-loop μ-loop
 loop-holds c = omega arith
@@ -56,6 +59,7 @@ told-spec =
     (tie.spec
     Inv-loop
     μ-loop
+    name-requires
     loop-holds
     mul-n
     element-copy-out-n
