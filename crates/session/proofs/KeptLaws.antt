@@ -128,7 +128,7 @@ record Unsent (t : Talk) : Type 0 where
   sent : t .sent + 3 * ((length (t .left) + 15) / 16) ≤ 3 * (17 + length (t .got) + t .requests)
 
 -- b6 is set while more is left
-more-left : (n : ℕ) (l : List ℕ) → ltb n (length l) ≡ ltb 0 (length (drop n l))
+pub more-left : (n : ℕ) (l : List ℕ) → ltb n (length l) ≡ ltb 0 (length (drop n l))
 more-left n l =
     let after : length (drop n l) ≡ length l - n = length-drop n l in
     le-or-lt (length l) n

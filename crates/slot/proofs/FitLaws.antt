@@ -13,6 +13,7 @@ use Rattle.lent.proofs.Cases.{cond-case, and-left, and-right, and-true, le-or-l
 use Rattle.lent.proofs.PlaceLaws.{length-window}
 use Rattle.block.specs.Event.{between}
 use Rattle.session.specs.Slot.{Block, iBlock, rBlock, ifsRequest, sResponse, stateNo, gotIn}
+use Rattle.session.proofs.KeptLaws.{more-left}
 use Rattle.session.specs.Kept.{LineKept, Standing, Last as LastKept, TalkKept, Kept}
 use Rattle.slot.specs.declared.parts.Line.{Line}
 use Rattle.slot.specs.declared.parts.Cut.{Cut}
@@ -145,14 +146,6 @@ fit-talk t held f = rw (range-in t (f .range), f .over, le-leb held 96 (f .held)
 
 -- ---- the paper's invariant
 
--- more is left exactly where something is
-more-left : (a n : ℕ) (l : List ℕ) → length l ≡ n → ltb a n ≡ ltb 0 (length (drop a l))
-more-left a n l e =
-    let after : length (drop a l) ≡ length l - a = length-drop a l in
-    le-or-lt n a
-    (λ h. le-ltb a n h ∙ sym (le-ltb 0 (length (drop a l)) (omega arith)))
-    (λ h. lt-ltb a n h ∙ sym (lt-ltb 0 (length (drop a l)) (omega arith)))
-
 -- a list is what goes before a part, the part, and what is left
 parts : (l : List ℕ) (a n : ℕ) → l ≡ take a l ++ (window l a n ++ drop (a + n) l)
 unfolding window
@@ -183,7 +176,7 @@ module _ (t : Talk) (command : List ℕ) (got : List (List ℕ)) (whole : length
       length-window command (t .cut .from) (t .cut .len) (omega (arith, c .ends)) in (
         refl,
         (
-          more-left upTo (t .cut .whole) command whole,
+          ap (ltb upTo) (sym whole) ∙ more-left upTo command,
           (
             omega (arith, c .some),
             (

@@ -2,3 +2,4 @@
 pub mod Blocks
 pub mod View
 pub mod Fit
+pub mod Safe

@@ -36,9 +36,13 @@ use Rattle.slot.specs.declared.parts.Next.{Next}
 use Rattle.slot.specs.Fit.{inRange, talkFits, fits}
 use Rattle.slot.specs.View.{talkOf, stateOf}
 use Rattle.slot.proofs.FitLaws.{TalkFit, talk-fit, fit-kept, Frame, frame-kept, kept-fits}
-use Rattle.turn.specs.Rows.{due, whileBusy}
-use Rattle.turn.specs.Calls.{takenIn, asksCell, taken, heard}
-use Rattle.turn.proofs.ViewLaws.{leaves, Shows, ends-shows, invalid-shows, request-shows, r-shows, due-shows, accepted-shows}
+use Rattle.greeting.proofs.ViewLaws.{leaves, Shows, ends-shows}
+use Rattle.taking.specs.Rows.{due}
+use Rattle.taking.specs.Calls.{takenIn, asksCell, taken}
+use Rattle.taking.proofs.ViewLaws.{due-shows, accepted-shows}
+use Rattle.turn.specs.Rows.{whileBusy}
+use Rattle.turn.specs.Calls.{heard}
+use Rattle.turn.proofs.ViewLaws.{invalid-shows, request-shows, r-shows}
 use Rattle.terminal.specs.Calls.{dueOf, eventOf, storedIn, poolOf}
 use Rattle.terminal.specs.Shows.{Moves, EventShows}
 use Rattle.terminal.proofs.PoolLaws.{then, stayed, few, append-moved, appends-granted, append-pieces, settled-moved, settled-pieces}

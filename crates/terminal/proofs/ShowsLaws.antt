@@ -32,8 +32,10 @@ use Rattle.slot.specs.View.{lineOf, stateOf}
 use Rattle.slot.specs.Fit.{lineFits, fits}
 use Rattle.slot.proofs.FitLaws.{line-fit, line-fits, fit-kept, Frame, frame-kept, kept-fits, state-no, got-shown}
 use Rattle.slot.proofs.BlockLaws.{built}
-use Rattle.turn.specs.Calls.{attached, unsent, started, commanded}
-use Rattle.turn.proofs.ViewLaws.{leaves, Shows, greeting-shows, next-shows}
+use Rattle.greeting.specs.Greeting.{attached}
+use Rattle.greeting.proofs.ViewLaws.{leaves, Shows, greeting-shows}
+use Rattle.turn.specs.Calls.{unsent, started, commanded}
+use Rattle.turn.proofs.ViewLaws.{next-shows}
 use Rattle.terminal.specs.Calls.{greeted, collects, collected, collectedPool}
 use Rattle.terminal.specs.Shows.{GivesShows, CollectShows, RemoveShows, Promised}
 use Rattle.terminal.proofs.PoolLaws.{release-moved, release-held}

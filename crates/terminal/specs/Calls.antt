@@ -12,9 +12,10 @@ use Rattle.slot.specs.declared.parts.Line.{Line}
 use Rattle.slot.specs.declared.parts.Talk.{Talk}
 use Rattle.slot.specs.declared.parts.Slot.the-variants.{Empty, Ready, Done}
 use Rattle.slot.specs.declared.parts.Next.{Next}
-use Rattle.turn.specs.Sending.{rests}
-use Rattle.turn.specs.Rows.{whileGreeting}
-use Rattle.turn.specs.Calls.{asksCell, taken, heard}
+use Rattle.greeting.specs.Sending.{rests}
+use Rattle.greeting.specs.Greeting.{whileGreeting}
+use Rattle.taking.specs.Calls.{asksCell, taken}
+use Rattle.turn.specs.Calls.{heard}
 
 -- ---- an event while greeting
 

@@ -32,7 +32,8 @@ use Rattle.slot.specs.declared.parts.Next.{Next}
 use Rattle.slot.specs.Blocks.{infIn, sentLength, sentOut, bytesOf}
 use Rattle.slot.specs.View.{lineOf, talkOf, stateOf, slotNo, KeptFor, saidWith, saidBy}
 use Rattle.slot.specs.Fit.{lineFits, talkFits, fits}
-use Rattle.turn.specs.Calls.{attached, commanded}
+use Rattle.greeting.specs.Greeting.{attached}
+use Rattle.turn.specs.Calls.{commanded}
 use Rattle.terminal.specs.Calls.{greeted, eventOf, poolOf, collected, collectedPool, removed}
 
 -- What a call gives on a slot that holds nothing before and after: the paper's state and answer, a slot that fits, and an

@@ -1,12 +1,11 @@
 // The calls on slot i, whose cells are in the region r of the pool.
 ghost use mathlib.Core.Path.{_≡_};
 ghost use Rattle.pool.specs.Calls.{appended, released, copied};
-ghost use Rattle.turn.specs.Sending.{rests};
+ghost use Rattle.greeting.specs.Sending.{rests};
 ghost use Rattle.terminal.specs.Calls.{greeted, dueOf, settledPool, eventOf, poolOf, collected, collectedPool, removed};
 use block::Event;
 use slot::Line;
 use slot::Next;
-use slot::Send;
 use slot::Slot;
 use slot::Talk;
 
@@ -14,7 +13,7 @@ use slot::Talk;
 pub fn greet(line: Line, sent: u32, kind: u64, bytes: &[u8]) -> Next
     ensures { λ n. ⌜ n ≡ greeted line sent kind (now (bytes .entry)) ⌝ }
 {
-    turn::greet(line, sent, block::read(kind, bytes))
+    greeting::greet(line, sent, block::read(kind, bytes))
 }
 
 // An I-block that is due: it takes a cell if the pool gives one.
@@ -23,7 +22,7 @@ fn store(r: &mut [u8], i: usize, t: Talk, e: Event, inf: &[u8]) -> Next
     ensures { λ _. ⌜ now (r .exit) ≡ appended (now (r .entry)) i (now (inf .entry)) ⌝ }
 {
     let stored = pool::append(r, i, inf);
-    turn::take(t, e, stored, pool::response_length(r, i))
+    taking::take(t, e, stored, pool::response_length(r, i))
 }
 
 // An ending frees the cells at once.
@@ -41,7 +40,7 @@ pub fn event(r: &mut [u8], i: usize, t: Talk, kind: u64, bytes: &[u8]) -> Next
     ensures { λ _. ⌜ now (r .exit) ≡ poolOf (now (r .entry)) i t kind (now (bytes .entry)) ⌝ }
 {
     let e = block::read(kind, bytes);
-    if turn::asks_cell(t, e) {
+    if taking::asks_cell(t, e) {
         let taken = store(r, i, t, e, block::inf(e, bytes));
         settle(r, i, taken.ending);
         return taken;
@@ -51,26 +50,13 @@ pub fn event(r: &mut [u8], i: usize, t: Talk, kind: u64, bytes: &[u8]) -> Next
     n
 }
 
-// Nothing goes out.
-fn rest(slot: Slot) -> Next
-    ensures { λ n. ⌜ n ≡ rests slot 0 ⌝ }
-{
-    Next {
-        slot: slot,
-        send: Send::Nothing,
-        sent: 0,
-        wait: 0,
-        ending: 0,
-    }
-}
-
 // The cells free, and the slot as given.
 fn empty(r: &mut [u8], i: usize, slot: Slot) -> Next
     ensures { λ n. ⌜ n ≡ rests slot 0 ⌝ }
     ensures { λ _. ⌜ now (r .exit) ≡ released (now (r .entry)) i ⌝ }
 {
     pool::release(r, i);
-    rest(slot)
+    greeting::rest(slot, 0)
 }
 
 // Collect, from a slot that is done: the response to the front of out, the cells free, the slot ready. Where out is
@@ -83,7 +69,7 @@ pub fn collect(r: &mut [u8], i: usize, line: Line, out: &mut [u8]) -> Next
     if pool::copy_out(r, i, out) {
         return empty(r, i, Slot::Ready { line: line });
     }
-    rest(Slot::Done { line: line })
+    greeting::rest(Slot::Done { line: line }, 0)
 }
 
 // Remove: the cells free, the slot empty.

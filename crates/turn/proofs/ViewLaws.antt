@@ -27,23 +27,14 @@ use Rattle.slot.specs.declared.parts.Talk.{Talk}
 use Rattle.slot.specs.declared.parts.Slot.the-variants.{Busy}
 use Rattle.slot.specs.declared.parts.Send.{Send}
 use Rattle.slot.specs.declared.parts.Next.{Next}
-use Rattle.turn.specs.Sending.{ends, goesOut, sentAt, again, greetAgain, inPlace, invalidBy, invalid, lastI, nextCut, cutNext, sendNext, sayAgain}
-use Rattle.turn.specs.Rows.{whileGreeting, due, took, acknowledged, accepted, onR, counted, onRequest}
+use Rattle.greeting.specs.Sending.{sentAt}
+use Rattle.greeting.proofs.ViewLaws.{Shows, both, ends-shows, goes}
+use Rattle.turn.specs.Sending.{again, inPlace, invalidBy, invalid, lastI, nextCut, cutNext, sendNext, sayAgain}
+use Rattle.turn.specs.Rows.{onR, counted, onRequest}
 use Rattle.slot.specs.Blocks.{isMore, infIn, bytesOf}
 use Rattle.slot.specs.View.{lineOf, iOf, standingOf, lastOf, talkOf, stateOf, saidBy}
 use Rattle.slot.specs.Fit.{CutIn}
 use Rattle.slot.proofs.FitLaws.{Frame}
-
--- the pieces held after a call that leaves `got`: none after an ending
-abbrev pub leaves : Next → (got : List (List ℕ)) → List (List ℕ)
-leaves n got = cond (eqb (n .ending) 0) got []
-
--- what a call gives shows what the paper does; `got` are the pieces before an ending frees them
-pub record Shows (command : List ℕ) (got : List (List ℕ)) (n : Next) (d : Did) : Type 0 where
-  pub state : stateOf (n .slot) command (leaves n got) ≡ d .state
-  pub answer : saidBy n command zeros ≡ d .answer
-  pub frame : Frame (n .slot) command (length (leaves n got))
-  pub small : length (infIn (n .send) command) ≤ 254
 
 -- ---- an I-block of min(n, what is left) bytes is cut as by the paper
 
@@ -76,55 +67,6 @@ module _ (command : List ℕ) (a n whole : ℕ) (e : length command ≡ whole) w
       (λ h. let m : a + size ≡ a + n = omega arith in rw m (sym (drop-drop n a command)))
 
 module _ (command : List ℕ) (got : List (List ℕ)) where
-  -- ---- a test that both make, and an ending
-
-  both : (b : Bool) {n m : Next} {d c : Did} → (b ≡ true → Shows command got n d) → (b ≡ false → Shows command got m c)
-      → Shows command got (cond b n m) (cond b d c)
-  both true f g = f refl
-  both false f g = g refl
-
-  pub ends-shows : (ending sent : ℕ) → eqb ending 0 ≡ false → Shows command got (ends ending sent) (paper.ends ending sent)
-  unfolding stateOf bytesOf
-  ends-shows ending sent e = record { state = refl; answer = refl; frame = rw e; small = omega arith }
-
-  -- ---- while greeting
-
-  pub greeting-shows : (l : Line) (sent : ℕ) (e : Event) → length got ≡ 0
-      → Shows command got (whileGreeting l sent e) (rows.whileGreeting (lineOf l) sent e)
-  unfolding whileGreeting stateOf bytesOf wire
-  greeting-shows l sent e none = go e
-    where
-      repeats : Shows command got (greetAgain l sent) (paper.greetAgain (lineOf l) sent)
-      repeats =
-          both (ltb sent 3)
-          (λ _. record { state = refl; answer = refl; frame = none; small = omega arith })
-          (λ _. ends-shows 21 sent refl)
-
-      go : (e : Event) → Shows command got (whileGreeting l sent e) (rows.whileGreeting (lineOf l) sent e)
-      go (IfsResponse v) =
-          both (eqb v 0xFE) (λ _. record { state = refl; answer = refl; frame = none; small = omega arith }) (λ _. repeats)
-      go Abort = ends-shows 22 sent refl
-      go (I number more) = repeats
-      go (R number) = repeats
-      go (IfsRequest v) = repeats
-      go (Wtx v) = repeats
-      go Edc = repeats
-      go Other = repeats
-
-  -- ---- a block goes out
-
-  goes : (t : Talk) → Frame (Busy t) command (length got) → (l : Last) (b : Send) (d : Block) (go wait : ℕ)
-      → lastOf l (sentAt t l go) command ≡ d → bytesOf b command ≡ wire d → length (infIn b command) ≤ 254
-      → Shows command got (goesOut (sentAt t l go) b wait)
-      (paper.sends (busy (paper.sentAt (talkOf t command got) d go)) d (t .turn .sent + 1) wait zeros)
-  unfolding stateOf
-  goes t f l b d go wait e w s = record {
-    state = ap (λ (x : Block). busy (paper.sentAt (talkOf t command got) x go)) e;
-    answer = ap (says 3 0 (t .turn .sent + 1) wait zeros) w;
-    frame = f;
-    small = s;
-  }
-
   -- of a command whose cut is as it may be
   module _ (t : Talk) (f : Frame (Busy t) command (length got)) where
     i-small : length (window command (t .cut .from) (t .cut .len)) ≤ 254
@@ -134,9 +76,9 @@ module _ (command : List ℕ) (got : List (List ℕ)) where
     repeated : (l : Last) (b : Send) (d : Block) → ((go : ℕ) → lastOf l (sentAt t l go) command ≡ d) → bytesOf b command ≡ wire d
         → length (infIn b command) ≤ 254 → Shows command got (again t l b) (paper.again (talkOf t command got) d)
     repeated l b d e w s =
-        both (ltb (t .turn .go) 3)
-        (λ _. goes t f l b d (t .turn .go + 1) (t .line .bwt) (e (t .turn .go + 1)) w s)
-        (λ _. ends-shows 21 (t .turn .sent) refl)
+        both command got (ltb (t .turn .go) 3)
+        (λ _. goes command got t f l b d (t .turn .go + 1) (t .line .bwt) (e (t .turn .go + 1)) w s)
+        (λ _. ends-shows command got 21 (t .turn .sent) refl)
 
     r-again : (nibble : ℕ) → Shows command got (inPlace t nibble) (paper.again (talkOf t command got) (rBlock (t .line .r) nibble))
     unfolding bytesOf wire
@@ -159,9 +101,9 @@ module _ (command : List ℕ) (got : List (List ℕ)) where
         → Shows command got (onRequest t ifsc pcb byte wait) (rows.onRequest (talkOf t command got) ifsc (sResponse pcb byte) wait)
     unfolding onRequest bytesOf wire
     request-shows ifsc pcb byte wait =
-        both (ltb (t .turn .requests) 255)
-        (λ _. goes (counted t ifsc) f (last.the-variants.S pcb byte) _ _ 1 wait refl refl (omega arith))
-        (λ _. ends-shows 24 (t .turn .sent) refl)
+        both command got (ltb (t .turn .requests) 255)
+        (λ _. goes command got (counted t ifsc) f (last.the-variants.S pcb byte) _ _ 1 wait refl refl (omega arith))
+        (λ _. ends-shows command got 24 (t .turn .sent) refl)
 
   -- ---- the next I-block
 
@@ -210,38 +152,12 @@ module _ (command : List ℕ) (got : List (List ℕ)) where
       go : (a : Bool)
           → (let u = ackedIs t a in Shows command got (onR u number) (rows.onR (standingOf u command) (talkOf u command got) number))
       go true =
-          both (eqb number (1 - t .line .s))
+          both command got (eqb number (1 - t .line .s))
           (λ _. r-again (ackedIs t true) f 0)
           (λ _. invalid-shows (ackedIs t true) f 2)
       go false =
-          both (eqb number (t .line .s))
+          both command got (eqb number (t .line .s))
           (λ _. i-again (ackedIs t false) f)
-          (λ _. both (isMore (t .cut))
+          (λ _. both command got (isMore (t .cut))
           (λ m. next-shows (ackedIs t false) k (f .0) (f .1 .least) (f .1 .most) (f .2) (ltb-true _ _ m))
           (λ _. invalid-shows (ackedIs t false) f 2))
-
--- ---- an I-block
-
-module _ (command : List ℕ) (got : List (List ℕ)) (t : Talk) where
-  pub due-shows : (number : ℕ) → due t number ≡ rows.due (talkOf t command got) number
-  unfolding due
-  due-shows number = ap (λ b. eqb number (t .line .r) && b) (go (t .acked))
-    where
-      go : (a : Bool) → (a || not (isMore (t .cut))) ≡ rows.awaits (cond a (rBlock (t .line .r) 0) (iOf t command))
-      go true = refl
-      go false = refl
-
-  -- its bytes are the last piece; the response is the pieces joined
-  pub accepted-shows : (inf : List ℕ) (more : Bool) (length′ : ℕ) → Frame (Busy t) command (length (got ++ (inf ∷ [])))
-      → length′ ≡ length (join (got ++ (inf ∷ [])))
-      → Shows command (got ++ (inf ∷ [])) (accepted t more length′) (rows.accepted (rows.took (talkOf t command got) inf) more)
-  unfolding accepted stateOf bytesOf wire
-  accepted-shows inf more length′ f e =
-      both command all more
-      (λ _. goes command all (acknowledged (took t)) f (last.the-variants.R 0) _ _ 1 (t .line .bwt) refl refl (omega arith))
-      (λ _. rw e (both command all (eqb (length (join all)) 1)
-      (λ _. ends-shows command all 23 (t .turn .sent) refl)
-      (λ _. record { state = refl; answer = refl; frame = tt; small = omega arith })))
-    where
-      all : List (List ℕ)
-      all = got ++ (inf ∷ [])

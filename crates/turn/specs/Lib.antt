@@ -1,5 +1,4 @@
 -- What each call makes of a slot's numbers.
 pub mod Sending
 pub mod Rows
-pub mod Safe
 pub mod Calls

@@ -3,7 +3,7 @@ ghost use mathlib.Core.Path.{_≡_};
 ghost use Prim.Native.Nat.{_-_, min};
 ghost use Rattle.slot.specs.Blocks.{isMore};
 ghost use Rattle.turn.specs.Sending.{lastI, nextCut, cutNext, sendNext, sayAgain};
-ghost use Rattle.turn.specs.Safe.{Numbers, Within};
+ghost use Rattle.slot.specs.Safe.{Numbers, Within};
 use slot::Cut;
 use slot::Last;
 use slot::Next;

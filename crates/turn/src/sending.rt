@@ -1,42 +1,16 @@
-// Blocks sent, goes, endings, and what is sent for an invalid event.
+// Blocks sent, goes, and what is sent for an invalid event.
 ghost use mathlib.Core.Path.{_≡_};
 ghost use Prim.Native.Nat.{_≤_, _<_};
 ghost use Rattle.block.specs.Block.{iPcb};
-ghost use Rattle.turn.specs.Sending.{rests, ends, sentAt, goesOut, newly, again, greets, greetAgain, sendR, inPlace, invalid};
-ghost use Rattle.turn.specs.Safe.{Numbers, Nibble};
+ghost use Rattle.slot.specs.Safe.{Numbers, Nibble};
+ghost use Rattle.greeting.specs.Sending.{sentAt, goesOut, newly, sendR};
+ghost use Rattle.turn.specs.Sending.{again, inPlace, invalid};
 use slot::Last;
-use slot::Line;
 use slot::Next;
 use slot::Send;
 use slot::Slot;
 use slot::Talk;
 use slot::Turn;
-
-// Nothing goes out.
-pub(crate) fn rest(slot: Slot, sent: u32) -> Next
-    ensures { λ n. ⌜ n ≡ rests slot sent ⌝ }
-{
-    Next {
-        slot: slot,
-        send: Send::Nothing,
-        sent: sent,
-        wait: 0,
-        ending: 0,
-    }
-}
-
-// The session ends.
-pub(crate) fn end(ending: u8, sent: u32) -> Next
-    ensures { λ n. ⌜ n ≡ ends ending sent ⌝ }
-{
-    Next {
-        slot: Slot::Ended,
-        send: Send::Nothing,
-        sent: sent,
-        wait: 0,
-        ending: ending,
-    }
-}
 
 // The PCB of an I-block.
 pub(crate) fn i_pcb(number: u8, more: bool) -> u8
@@ -104,36 +78,7 @@ pub(crate) fn send_again(t: Talk, last: Last, b: Send) -> Next
     if t.turn.go < 3 {
         return go_out(sent_at(t, last, t.turn.go + 1), b, t.line.bwt);
     }
-    end(21, t.turn.sent)
-}
-
-// S(IFS request) with FE goes out, for the time `sent`.
-pub(crate) fn send_greeting(line: Line, sent: u32) -> Next
-    ensures { λ n. ⌜ n ≡ greets line sent ⌝ }
-{
-    Next {
-        slot: Slot::Greeting {
-            line: line,
-            sent: sent,
-        },
-        send: Send::S {
-            pcb: 0xC1,
-            byte: 0xFE,
-        },
-        sent: sent,
-        wait: line.bwt,
-        ending: 0,
-    }
-}
-
-// S(IFS request) goes out again.
-pub(crate) fn greet_again(line: Line, sent: u32) -> Next
-    ensures { λ n. ⌜ n ≡ greetAgain line sent ⌝ }
-{
-    if sent < 3 {
-        return send_greeting(line, sent + 1);
-    }
-    end(21, sent)
+    greeting::end(21, t.turn.sent)
 }
 
 // An R(r) with this low nibble, in place of the last block.

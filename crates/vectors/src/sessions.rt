@@ -56,7 +56,7 @@ pub(crate) fn attach(slot: Slot, bytes: &[u8]) -> Step {
     let answer = atr::read(bytes);
     match answer {
         Answer::Refused { number } => still(slot, number),
-        Answer::Taken { report } => made(turn::attach(report)),
+        Answer::Taken { report } => made(greeting::attach(report)),
     }
 }
 

@@ -4,7 +4,8 @@ use Rattle.terminal.proofs.calls.event.Statement.{statement}
 use Rattle.terminal.proofs.calls.event.Tie as tie
 use Rattle.terminal.specs.Calls.{dueOf, storedIn, settledPool, eventOf, poolOf}
 use Rattle.slot.specs.declared.parts.Next.{Next}
-use Rattle.turn.specs.Calls.{asksCell, heard}
+use Rattle.taking.specs.Calls.{asksCell}
+use Rattle.turn.specs.Calls.{heard}
 use Rattle.pool.specs.Calls.{appended}
 use Rattle.block.specs.Reader.{readOf, infRead}
 use Rattle.block.specs.Event.{infOf}

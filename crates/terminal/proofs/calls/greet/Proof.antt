@@ -3,7 +3,7 @@ use borrow.Author.Needs.{needs}
 use Rattle.terminal.proofs.calls.greet.Statement.{statement}
 use Rattle.terminal.proofs.calls.greet.Tie as tie
 use Rattle.terminal.specs.Calls.{greeted}
-use Rattle.turn.specs.Rows.{whileGreeting}
+use Rattle.greeting.specs.Greeting.{whileGreeting}
 use mathlib.Core.Path.{ap, _∙_}
 
 read-requires : tie.Need-read-requires

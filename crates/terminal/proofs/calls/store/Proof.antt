@@ -3,7 +3,7 @@ use borrow.Author.Needs.{needs}
 use Rattle.terminal.proofs.calls.store.Statement.{statement}
 use Rattle.terminal.proofs.calls.store.Tie as tie
 use Rattle.terminal.specs.Calls.{dueOf}
-use Rattle.turn.specs.Calls.{taken}
+use Rattle.taking.specs.Calls.{taken}
 use Rattle.pool.specs.Calls.{appended, response}
 use Prim.Native.Nat.{ℕ}
 use mathlib.Core.Path.{_≡_, ap, ap₂, _∙_}

@@ -3,7 +3,7 @@ use borrow.Author.Needs.{needs}
 use Rattle.turn.proofs.calls.command.Statement.{statement}
 use Rattle.turn.proofs.calls.command.Tie as tie
 use Rattle.turn.specs.Calls.{commanded}
-use Rattle.turn.proofs.SafeLaws.{line-safe}
+use Rattle.slot.proofs.SafeLaws.{line-safe}
 use Rattle.session.proofs.FormLaws.{form-fits}
 use mathlib.Core.Path.{sym, _∙_}
 use denote.Ref.{now}

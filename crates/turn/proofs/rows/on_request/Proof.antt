@@ -7,7 +7,7 @@ use mathlib.Core.Path.{sym, _∙_, ap}
 use borrow.Author.Tests.{lt-ltb, le-ltb}
 use Rattle.slot.specs.declared.parts.Last.the-variants as last
 use Rattle.slot.specs.declared.parts.Send.the-variants as send
-use Rattle.turn.specs.Sending.{newly}
+use Rattle.greeting.specs.Sending.{newly}
 use Rattle.slot.specs.declared.parts.Talk.{Talk}
 
 count-requires : tie.Need-count-requires

@@ -4,7 +4,7 @@ use Rattle.turn.proofs.sending.send_again.Statement.{statement}
 use Rattle.turn.proofs.sending.send_again.Tie as tie
 use mathlib.Core.Path.{sym, _∙_, ap}
 use borrow.Author.Tests.{lt-ltb, le-ltb}
-use Rattle.turn.specs.Sending.{goesOut}
+use Rattle.greeting.specs.Sending.{goesOut}
 use Rattle.slot.specs.declared.parts.Talk.{Talk}
 
 add-sent-at : tie.Need-add-sent-at

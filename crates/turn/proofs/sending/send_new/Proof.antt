@@ -2,7 +2,7 @@
 use borrow.Author.Needs.{needs}
 use Rattle.turn.proofs.sending.send_new.Statement.{statement}
 use Rattle.turn.proofs.sending.send_new.Tie as tie
-use Rattle.turn.specs.Sending.{goesOut}
+use Rattle.greeting.specs.Sending.{goesOut}
 use Rattle.slot.specs.declared.parts.Talk.{Talk}
 use mathlib.Core.Path.{ap, _∙_}
 

@@ -1,0 +1,3 @@
+-- What a call gives, and what is done while greeting.
+pub mod Sending
+pub mod Greeting

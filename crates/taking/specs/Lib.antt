@@ -1,0 +1,3 @@
+-- What is made of an I-block that is due.
+pub mod Rows
+pub mod Calls
