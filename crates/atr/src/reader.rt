@@ -19,7 +19,7 @@ fn is_start_wrong(s: &[u8]) -> bool
     if s.len() == 0 {
         return false;
     }
-    let ts = lent::get8(s, 0);
+    let ts = numbers::get8(s, 0);
     if ts == 0x3B {
         return false;
     }
@@ -63,7 +63,7 @@ pub fn read(s: &[u8]) -> Answer
     if 33 < s.len() {
         return Answer::Refused { number: 9 };
     }
-    let historical = lent::get8(s, 1) % 16;
+    let historical = numbers::get8(s, 1) % 16;
     let end = super::walk::to_end(s);
     if s.len() != super::walk::announced_length(end, historical) {
         return Answer::Refused { number: 9 };

@@ -80,7 +80,7 @@ fn group_behind(s: &[u8], n: u8) -> Group
     ensures { λ r. ⌜ r ≡ behind n (walkOf (now (s .entry)) .groups) ⌝ }
 {
     let mut at: usize = 2;
-    let mut td = lent::get8(s, 1) as u16;
+    let mut td = numbers::get8(s, 1) as u16;
     let mut i: u8 = 0;
     while i < n {
         let g = group_at(s, at, td);
@@ -127,7 +127,7 @@ pub(crate) fn to_end(s: &[u8]) -> End
     ensures { λ r. ⌜ r .at ≤ 2000 ⌝ }
 {
     let mut at: usize = 2;
-    let mut td = lent::get8(s, 1) as u16;
+    let mut td = numbers::get8(s, 1) as u16;
     let mut tck = false;
     while td < ABSENT {
         let g = group_at(s, at, td);

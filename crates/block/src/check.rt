@@ -32,5 +32,5 @@ pub(crate) fn put_check(out: &mut [u8], n: usize)
     ensures { λ _. ⌜ now (out .exit) ≡ splice (now (out .entry)) n (checkOf (window (now (out .entry)) 0 n)) ⌝ }
 {
     let x = lrc(lent::part(out, 0, n));
-    lent::put8(out, n, x);
+    numbers::put8(out, n, x);
 }

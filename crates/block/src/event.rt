@@ -66,7 +66,7 @@ fn is_byte(low: usize, inf: &[u8], high: usize) -> bool
     if inf.len() != 1 {
         return false;
     }
-    is_between(low, lent::get8(inf, 0) as usize, high)
+    is_between(low, numbers::get8(inf, 0) as usize, high)
 }
 
 // Whether LEN and INF are as that block asks.
@@ -89,7 +89,7 @@ fn in_range(e: Event, inf: &[u8]) -> bool
 pub(crate) fn sort(pcb: u8, inf: &[u8]) -> Event
     ensures { λ r. ⌜ r ≡ sortOf pcb (now (inf .entry)) ⌝ }
 {
-    let e = named(pcb, lent::get8(inf, 0));
+    let e = named(pcb, numbers::get8(inf, 0));
     if in_range(e, inf) { e } else { Event::Other }
 }
 

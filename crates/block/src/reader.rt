@@ -14,7 +14,7 @@ fn is_whole(s: &[u8]) -> bool
     if s.len() < FRAME {
         return false;
     }
-    let len = lent::get8(s, 2);
+    let len = numbers::get8(s, 2);
     if s.len() != FRAME + (len as usize) {
         return false;
     }
@@ -49,8 +49,8 @@ fn read_bytes(s: &[u8]) -> Event
     ensures { λ r. ⌜ r ≡ bytesOf (now (s .entry)) ⌝ }
 {
     if is_whole(s) {
-        let ours = lent::get8(s, 0) == 0x00;
-        let e = super::event::sort(lent::get8(s, 1), inf_part(s));
+        let ours = numbers::get8(s, 0) == 0x00;
+        let e = super::event::sort(numbers::get8(s, 1), inf_part(s));
         return in_order(super::check::is_right(s), ours, e);
     }
     Event::Other

@@ -5,7 +5,7 @@ ghost use lib.ListN.{length};
 ghost use Rattle.lent.specs.Place.{within, window, splice};
 
 // Whether n bytes from place a lie within t.
-pub(crate) fn lies_within(t: &[u8], a: usize, n: usize) -> bool
+pub fn lies_within(t: &[u8], a: usize, n: usize) -> bool
     ensures { λ r. ⌜ r ≡ within (now (t .entry)) a n ⌝ }
 {
     if t.len() < a {

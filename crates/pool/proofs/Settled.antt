@@ -6,10 +6,6 @@ use Rattle.pool.proofs.fresh.lay_out.Kinds as lay-out-kinds
 use Rattle.pool.proofs.fresh.lay_out.Reads as lay-out
 use Rattle.pool.proofs.storing.append.Kinds as append-kinds
 use Rattle.pool.proofs.storing.append.Reads as append
-use Rattle.pool.proofs.response.response_length.Kinds as response-length-kinds
-use Rattle.pool.proofs.response.response_length.Reads as response-length
-use Rattle.pool.proofs.response.copy_out.Kinds as copy-out-kinds
-use Rattle.pool.proofs.response.copy_out.Reads as copy-out
 use Rattle.pool.proofs.freeing.release.Kinds as release-kinds
 use Rattle.pool.proofs.freeing.release.Reads as release
 
@@ -24,15 +20,6 @@ append-answer κs a x y s t f g = f .0 ∙ sym (g .0)
 
 pub append-bytes : Settles append-kinds.ps append-kinds.r append.Post (λ κs r s. now (s .0))
 append-bytes κs a x y s t f g = f .1 ∙ sym (g .1)
-
-pub response-length-answer : Settles response-length-kinds.ps response-length-kinds.r response-length.Post (λ κs r s. r)
-response-length-answer κs a x y s t f g = f ∙ sym g
-
-pub copy-out-answer : Settles copy-out-kinds.ps copy-out-kinds.r copy-out.Post (λ κs r s. r)
-copy-out-answer κs a x y s t f g = f .0 ∙ sym (g .0)
-
-pub copy-out-bytes : Settles copy-out-kinds.ps copy-out-kinds.r copy-out.Post (λ κs r s. now (s .1 .1 .0))
-copy-out-bytes κs a x y s t f g = f .1 ∙ sym (g .1)
 
 pub release-bytes : Settles release-kinds.ps release-kinds.r release.Post (λ κs r s. now (s .0))
 release-bytes κs a x y s t f g = f ∙ sym g

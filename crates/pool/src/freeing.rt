@@ -11,7 +11,7 @@ fn free_one(r: &mut [u8], i: usize, k: usize)
     ensures { λ _. ⌜ now (r .exit) ≡ set (now (r .entry)) (ownersAt + listed (now (r .entry)) i k) unowned ⌝ }
     ensures { λ _. ⌜ listed (now (r .entry)) i k < 256 ⌝ }
 {
-    let c = lent::wide(r[region::layout::LISTS + (i * region::layout::CELLS + k)]);
+    let c = numbers::wide(r[region::layout::LISTS + (i * region::layout::CELLS + k)]);
     r[region::layout::OWNERS + c] = region::layout::UNOWNED;
 }
 
@@ -19,7 +19,7 @@ fn free_all(r: &mut [u8], i: usize)
     requires { ⌜ (size ≤ length (now r)) × (i < holders) ⌝ }
     ensures { λ _. ⌜ now (r .exit) ≡ set (freed (now (r .entry)) i (held (now (r .entry)) i)) (heldAt + i) 0 ⌝ }
 {
-    let n = lent::wide(r[region::layout::HELD + i]);
+    let n = numbers::wide(r[region::layout::HELD + i]);
     let mut k: usize = 0;
     while k < n {
         free_one(r, i, k);

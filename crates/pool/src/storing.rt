@@ -31,7 +31,7 @@ fn store(r: &mut [u8], i: usize, c: usize, xs: &[u8])
     r[region::layout::OWNERS + c] = i as u8;
     r[region::layout::PLACES + c] = n;
     r[region::layout::LENGTHS + c] = xs.len() as u8;
-    r[region::layout::LISTS + (i * region::layout::CELLS + lent::wide(n))] = c as u8;
+    r[region::layout::LISTS + (i * region::layout::CELLS + numbers::wide(n))] = c as u8;
     r[region::layout::HELD + i] = n + 1;
 }
 

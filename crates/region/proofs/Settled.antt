@@ -13,8 +13,6 @@ use Rattle.region.proofs.holding.free.Kinds as free-kinds
 use Rattle.region.proofs.holding.free.Reads as free
 use Rattle.region.proofs.holding.granted.Kinds as granted-kinds
 use Rattle.region.proofs.holding.granted.Reads as granted
-use Rattle.region.proofs.sound.is_sound.Kinds as is-sound-kinds
-use Rattle.region.proofs.sound.is_sound.Reads as is-sound
 
 pub is-holder-answer : Settles is-holder-kinds.ps is-holder-kinds.r is-holder.Post (λ κs r s. r)
 is-holder-answer κs a x y s t f g = f ∙ sym g
@@ -33,6 +31,3 @@ free-answer κs a x y s t f g = f ∙ sym g
 
 pub granted-answer : Settles granted-kinds.ps granted-kinds.r granted.Post (λ κs r s. r)
 granted-answer κs a x y s t f g = f ∙ sym g
-
-pub is-sound-answer : Settles is-sound-kinds.ps is-sound-kinds.r is-sound.Post (λ κs r s. r)
-is-sound-answer κs a x y s t f g = f ∙ sym g

@@ -16,7 +16,7 @@ pub(crate) fn held_in_all(r: &[u8]) -> usize
     let mut total: usize = 0;
     let mut j: usize = 0;
     while j < super::layout::HOLDERS {
-        total += lent::wide(r[super::layout::HELD + j]);
+        total += numbers::wide(r[super::layout::HELD + j]);
         j += 1;
     }
     total

@@ -12,7 +12,7 @@ fn in_order(share: u8, ceiling: u8) -> bool
     if ceiling < share {
         return false;
     }
-    lent::wide(ceiling) <= super::layout::CELLS
+    numbers::wide(ceiling) <= super::layout::CELLS
 }
 
 // Whether a pool opens with these shares and ceilings: so for all holders, and the shares add to no more than the cells.
@@ -23,11 +23,11 @@ pub fn acceptable(shares: &[u8], ceilings: &[u8]) -> bool
     let mut total: usize = 0;
     let mut i: usize = 0;
     while i < super::layout::HOLDERS {
-        let share = lent::get8(shares, i);
-        if !in_order(share, lent::get8(ceilings, i)) {
+        let share = numbers::get8(shares, i);
+        if !in_order(share, numbers::get8(ceilings, i)) {
             return false;
         }
-        total += lent::wide(share);
+        total += numbers::wide(share);
         i += 1;
     }
     total <= super::layout::CELLS

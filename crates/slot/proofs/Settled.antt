@@ -1,23 +1,12 @@
 -- Each public function's promise settles its answer and every byte behind its `&mut`. Assumes nothing.
 use mathlib.Core.Path.{sym, _∙_}
-use denote.Ref.{now}
 use Rattle.lent.proofs.Settles.{Settles}
-use Rattle.slot.proofs.building.send.Kinds as send-kinds
-use Rattle.slot.proofs.building.send.Reads as send
 use Rattle.slot.proofs.fit.is_line_fit.Kinds as is-line-fit-kinds
 use Rattle.slot.proofs.fit.is_line_fit.Reads as is-line-fit
 use Rattle.slot.proofs.fit.is_in_range.Kinds as is-in-range-kinds
 use Rattle.slot.proofs.fit.is_in_range.Reads as is-in-range
 use Rattle.slot.proofs.fit.is_fit.Kinds as is-fit-kinds
 use Rattle.slot.proofs.fit.is_fit.Reads as is-fit
-use Rattle.slot.proofs.form.is_command.Kinds as is-command-kinds
-use Rattle.slot.proofs.form.is_command.Reads as is-command
-
-pub send-answer : Settles send-kinds.ps send-kinds.r send.Post (λ κs r s. r)
-send-answer κs a x y s t f g = f .0 ∙ sym (g .0)
-
-pub send-bytes : Settles send-kinds.ps send-kinds.r send.Post (λ κs r s. now (s .0))
-send-bytes κs a x y s t f g = f .1 ∙ sym (g .1)
 
 pub is-line-fit-answer : Settles is-line-fit-kinds.ps is-line-fit-kinds.r is-line-fit.Post (λ κs r s. r)
 is-line-fit-answer κs a x y s t f g = f ∙ sym g
@@ -27,6 +16,3 @@ is-in-range-answer κs a x y s t f g = f ∙ sym g
 
 pub is-fit-answer : Settles is-fit-kinds.ps is-fit-kinds.r is-fit.Post (λ κs r s. r)
 is-fit-answer κs a x y s t f g = f ∙ sym g
-
-pub is-command-answer : Settles is-command-kinds.ps is-command-kinds.r is-command.Post (λ κs r s. r)
-is-command-answer κs a x y s t f g = f ∙ sym g

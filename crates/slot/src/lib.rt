@@ -1,15 +1,11 @@
-// A slot's numbers, by value: its parts, when they fit what calls can leave, the form of a command, and the block to send.
-// What they show of the paper's session is in specs/View.
-mod building;
+// A slot's numbers, by value: its parts, and when they fit what calls can leave. What they show of the paper's
+// session is in specs/View, and the block to send in specs/Blocks.
 mod fit;
-mod form;
 mod parts;
 
-pub use building::send;
 pub use fit::is_fit;
 pub use fit::is_in_range;
 pub use fit::is_line_fit;
-pub use form::is_command;
 pub use parts::Cut;
 pub use parts::Last;
 pub use parts::Line;

@@ -22,7 +22,7 @@ fn store(r: &mut [u8], i: usize, t: Talk, e: Event, inf: &[u8]) -> Next
     ensures { λ _. ⌜ now (r .exit) ≡ appended (now (r .entry)) i (now (inf .entry)) ⌝ }
 {
     let stored = pool::append(r, i, inf);
-    taking::take(t, e, stored, pool::response_length(r, i))
+    taking::take(t, e, stored, response::response_length(r, i))
 }
 
 // An ending frees the cells at once.
@@ -66,7 +66,7 @@ pub fn collect(r: &mut [u8], i: usize, line: Line, out: &mut [u8]) -> Next
     ensures { λ _. ⌜ now (r .exit) ≡ collectedPool (now (r .entry)) i (now (out .entry)) ⌝ }
     ensures { λ _. ⌜ now (out .exit) ≡ copied (now (r .entry)) i (now (out .entry)) ⌝ }
 {
-    if pool::copy_out(r, i, out) {
+    if response::copy_out(r, i, out) {
         return empty(r, i, Slot::Ready { line: line });
     }
     greeting::rest(Slot::Done { line: line }, 0)

@@ -40,7 +40,7 @@ pub fn command(line: Line, bytes: &[u8]) -> Next
     ensures { λ n. ⌜ n ≡ commanded line (now (bytes .entry)) ⌝ }
 {
     if slot::is_line_fit(line) {
-        if slot::is_command(bytes) {
+        if wire::is_command(bytes) {
             return start(line, bytes.len());
         }
         return greeting::rest(Slot::Ready { line: line }, 0);

@@ -60,7 +60,7 @@ fn next_cut(ifsc: u8, c: Cut) -> Cut
     Cut {
         whole: c.whole,
         from: at,
-        len: least(lent::wide(ifsc), c.whole - at),
+        len: least(numbers::wide(ifsc), c.whole - at),
     }
 }
 

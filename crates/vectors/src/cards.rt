@@ -27,7 +27,7 @@ fn each(list: &[u8])
 {
     let mut at: usize = 0;
     while at < list.len() {
-        let n = lent::get8(list, at) as usize;
+        let n = numbers::get8(list, at) as usize;
         card(lent::part(list, at + 1, n));
         at += n + 1;
     }

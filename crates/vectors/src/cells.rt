@@ -14,7 +14,7 @@ pub(crate) fn said(name: &[u8], yes: bool) {
 fn counting(s: &mut [u8], v: u8) {
     let mut j: usize = 0;
     while j < s.len() {
-        s[j] = ((lent::wide(v) + j % 256) % 256) as u8;
+        s[j] = ((numbers::wide(v) + j % 256) % 256) as u8;
         j += 1;
     }
 }
@@ -32,7 +32,7 @@ pub(crate) fn opens(r: &mut [u8], shares: &[u8; 8], ceilings: &[u8; 8]) {
     super::print::text(b" ceilings");
     super::print::bytes(ceilings);
     said(b": opens", pool::lay_out(r, shares, ceilings));
-    said(b", sound", region::is_sound(r));
+    said(b", sound", sound::is_sound(r));
     super::print::text(b"\n");
 }
 
@@ -50,8 +50,8 @@ pub(crate) fn holding(r: &[u8], i: usize) {
 fn copies(r: &[u8], i: usize, out: &mut [u8]) {
     lent::fill(out, 0, out.len(), 170);
     super::print::text(b"response");
-    super::print::number(pool::response_length(r, i) as u64);
-    said(b": copied", pool::copy_out(r, i, out));
+    super::print::number(response::response_length(r, i) as u64);
+    said(b": copied", response::copy_out(r, i, out));
     super::print::bytes(out);
     super::print::text(b"\n");
 }
@@ -79,7 +79,7 @@ fn piece(r: &mut [u8], i: usize, n: usize, v: u8) {
 fn pieces(r: &mut [u8]) {
     let mut n: u8 = 1;
     while n <= 27 {
-        piece(r, 0, lent::wide(n), n);
+        piece(r, 0, numbers::wide(n), n);
         n += 1;
     }
 }

@@ -54,8 +54,8 @@ pub(crate) fn paper() {
 fn long(len: u8) {
     let mut s = [0u8; 260];
     let n = len as usize;
-    lent::put8(&mut s, 2, len);
-    lent::put8(&mut s, n + 3, len);
+    numbers::put8(&mut s, 2, len);
+    numbers::put8(&mut s, n + 3, len);
     super::print::text(b"LEN");
     super::print::byte(len);
     shown(0, lent::part(&s, 0, n + 4));
@@ -114,8 +114,8 @@ fn is_kind(kind: u8, pcb: u8, len: u8, fault: u8) -> u64
     let mut s = [0u8; 6];
     let n = block::build(&mut s, pcb, lent::part(&inf, 0, len as usize));
     let at = (len as usize) + 3;
-    let lrc = lent::get8(&s, at);
-    lent::put8(&mut s, at, lrc ^ fault);
+    let lrc = numbers::get8(&s, at);
+    numbers::put8(&mut s, at, lrc ^ fault);
     if kind_of(block::read(0, lent::part(&s, 0, n))) == kind {
         1
     } else {

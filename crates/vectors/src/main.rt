@@ -22,7 +22,7 @@ fn inputs() {
     let mut space = io::large_buffer();
     let n = io::read_full(0, &mut space);
     let given = &space[..n];
-    let size = lent::get16(given, 0) as usize;
+    let size = numbers::get16(given, 0) as usize;
     cards::listed(lent::part(given, 2, size));
     script::played(lent::part(given, size + 2, n));
 }

@@ -16,7 +16,7 @@ pub(crate) fn bytes_folded(s: &[u8]) -> usize
     let mut d: usize = 0;
     let mut i: usize = 0;
     while i < s.len() {
-        d = folded(d, lent::wide(s[i]));
+        d = folded(d, numbers::wide(s[i]));
         i += 1;
     }
     d
@@ -27,7 +27,7 @@ fn response_folded(r: &[u8], i: usize) -> usize
     ensures { λ n. ⌜ n < 65521 ⌝ }
 {
     let mut out = [170u8; 24400];
-    pool::copy_out(r, i, &mut out);
+    response::copy_out(r, i, &mut out);
     bytes_folded(&out)
 }
 
@@ -48,7 +48,7 @@ fn done(r: &mut [u8], i: usize, x: usize) -> usize
 pub(crate) fn three_if_sound(r: &[u8]) -> usize
     ensures { λ n. ⌜ n ≤ 3 ⌝ }
 {
-    if region::is_sound(r) { 3 } else { 0 }
+    if sound::is_sound(r) { 3 } else { 0 }
 }
 
 // One call: what it answers, whether the region is sound, and what then is held and free.
@@ -59,8 +59,8 @@ fn call(r: &mut [u8], x: usize) -> usize
     let answer = done(r, i, x);
     answer
         + three_if_sound(r)
-        + lent::wide(region::held(r, i)) * 8
-        + lent::wide(region::free(r)) * 2048
+        + numbers::wide(region::held(r, i)) * 8
+        + numbers::wide(region::free(r)) * 2048
 }
 
 // 3000 calls.
@@ -82,7 +82,7 @@ fn holder(r: &[u8], i: usize) {
     super::print::text(b"holder");
     super::print::number(i as u64);
     super::print::text(b": length");
-    super::print::number(pool::response_length(r, i) as u64);
+    super::print::number(response::response_length(r, i) as u64);
     super::print::text(b" response");
     super::print::number(response_folded(r, i) as u64);
     super::cells::holding(r, i);
@@ -123,10 +123,10 @@ fn other(b: u8, v: u8, whole: bool) -> u8 {
 
 // Whether the region is sound with byte a changed; it is changed back.
 fn survives(r: &mut [u8], a: usize, v: u8, whole: bool) -> bool {
-    let b = lent::get8(r, a);
-    lent::put8(r, a, other(b, v, whole));
-    let yes = region::is_sound(r);
-    lent::put8(r, a, b);
+    let b = numbers::get8(r, a);
+    numbers::put8(r, a, other(b, v, whole));
+    let yes = sound::is_sound(r);
+    numbers::put8(r, a, b);
     yes
 }
 

@@ -29,7 +29,7 @@ fn call(r: &mut [u8], slot: Slot, op: u8, a: u8, bytes: &[u8], out: &mut [u8]) -
         1 => super::sessions::attach(slot, bytes),
         2 => super::sessions::command(slot, bytes),
         3 => super::sessions::event(r, slot, a, bytes),
-        4 => super::sessions::collect(r, slot, lent::get16(bytes, 0) as usize, out),
+        4 => super::sessions::collect(r, slot, numbers::get16(bytes, 0) as usize, out),
         5 => super::sessions::remove(r, slot),
         _ => around(r, slot, op, a, bytes),
     }
@@ -49,7 +49,7 @@ fn keep(kept: &mut [u8], op: u8, number: u8, bytes: &[u8]) {
 fn place(out: &mut [u8], step: Step, kept: &[u8]) -> usize {
     let next = step.next;
     let block = next.send;
-    let n = slot::send(out, block, kept);
+    let n = wire::send(out, block, kept);
     if n == 0 {
         return step.length;
     }
@@ -153,9 +153,9 @@ fn each(r: &mut [u8], script: &[u8])
     };
     let mut at: usize = 0;
     while at < script.len() {
-        let op = lent::get8(script, at);
-        let a = lent::get8(script, at + 1);
-        let n = lent::get16(script, at + 2) as usize;
+        let op = numbers::get8(script, at);
+        let a = numbers::get8(script, at + 1);
+        let n = numbers::get16(script, at + 2) as usize;
         seat = line(r, seat, &mut kept, op, a, lent::part(script, at + 4, n));
         at += n + 4;
     }

@@ -64,7 +64,7 @@ pub(crate) fn command(slot: Slot, bytes: &[u8]) -> Step {
     let Slot::Ready { line } = slot else {
         return still(slot, 4);
     };
-    if slot::is_command(bytes) {
+    if wire::is_command(bytes) {
         return made(turn::command(line, bytes));
     }
     still(slot, 7)
@@ -91,7 +91,7 @@ pub(crate) fn collect(r: &mut [u8], slot: Slot, n: usize, out: &mut [u8]) -> Ste
     let Slot::Done { line } = slot else {
         return still(slot, 4);
     };
-    let length = pool::response_length(r, 0);
+    let length = response::response_length(r, 0);
     if n <= out.len() {
         let next = terminal::collect(r, 0, line, &mut out[..n]);
         let then = next.slot;

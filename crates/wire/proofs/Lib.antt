@@ -1,0 +1,2 @@
+-- That each promise settles its answer and its bytes.
+pub mod Settled
