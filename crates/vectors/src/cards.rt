@@ -4,15 +4,15 @@ ghost use lib.ListN.{length};
 
 // What an ATR is read as.
 fn card(s: &[u8]) {
-    super::print::text(b"ATR");
+    super::words::say(super::words::ATR);
     super::print::bytes(s);
-    super::print::text(b": ");
+    super::words::say(super::words::COLON);
     super::print::answer(atr::read(s));
-    super::print::text(b"\n");
+    super::words::say(super::words::END);
 }
 
 pub(crate) fn paper() {
-    super::print::text(b"P1 to P6\n");
+    super::words::say(super::words::P1);
     card(b"\x3B\xE0\x00\x00\x81\x31\x20\x45\x35");
     card(b"\x3B\xE0\x00\xFF\x81\x31\x20\x40\xCF");
     card(b"\x3B\xE0\x00\x01\x81\x31\x20\x40\x31");
@@ -34,7 +34,7 @@ fn each(list: &[u8])
 }
 
 pub(crate) fn listed(list: &[u8]) {
-    super::print::text(b"the list\n");
+    super::words::say(super::words::LIST);
     if list.len() <= 65536 {
         each(list);
     }

@@ -1,12 +1,12 @@
 // The pool on real bytes: P11 and P12, the sizes of a piece, and responses copied into outputs of several lengths.
 
-// A name, and yes or no.
-pub(crate) fn said(name: &[u8], yes: bool) {
-    super::print::text(name);
+// A word, and yes or no.
+pub(crate) fn said(word: usize, yes: bool) {
+    super::words::say(word);
     if yes {
-        super::print::text(b" yes");
+        super::words::say(super::words::YES);
     } else {
-        super::print::text(b" no");
+        super::words::say(super::words::NO);
     }
 }
 
@@ -26,34 +26,48 @@ pub(crate) fn append(r: &mut [u8], i: usize, n: usize, v: u8) -> bool {
     pool::append(r, i, lent::part(&piece, 0, n))
 }
 
-pub(crate) fn opens(r: &mut [u8], shares: &[u8; 8], ceilings: &[u8; 8]) {
-    super::print::text(b"shares");
-    super::print::bytes(shares);
-    super::print::text(b" ceilings");
-    super::print::bytes(ceilings);
-    said(b": opens", pool::lay_out(r, shares, ceilings));
-    said(b", sound", sound::is_sound(r));
-    super::print::text(b"\n");
+// Lays out a region for eight shares and then eight ceilings.
+pub(crate) fn laid(r: &mut [u8], limits: &[u8]) -> bool {
+    let mut shares = [0u8; 8];
+    let mut ceilings = [0u8; 8];
+    lent::put(&mut shares, 0, lent::part(limits, 0, 8));
+    lent::put(&mut ceilings, 0, lent::part(limits, 8, 8));
+    pool::lay_out(r, &shares, &ceilings)
+}
+
+fn limits(limits: &[u8]) {
+    super::words::say(super::words::SHARES);
+    super::print::bytes(lent::part(limits, 0, 8));
+    super::words::say(super::words::CEILINGS);
+    super::print::bytes(lent::part(limits, 8, 8));
+}
+
+// Whether a pool opens with these limits.
+pub(crate) fn opens(r: &mut [u8], list: &[u8]) {
+    limits(list);
+    said(super::words::OPENS, laid(r, list));
+    said(super::words::SOUND, sound::is_sound(r));
+    super::words::say(super::words::END);
 }
 
 // What holder i holds, what is free, and whether it would get a cell.
 pub(crate) fn holding(r: &[u8], i: usize) {
-    super::print::text(b" held");
+    super::words::say(super::words::HELD);
     super::print::number(region::held(r, i) as u64);
-    super::print::text(b" free");
+    super::words::say(super::words::FREE);
     super::print::number(region::free(r) as u64);
-    said(b" next", region::granted(r, i));
-    super::print::text(b"\n");
+    said(super::words::NEXT, region::granted(r, i));
+    super::words::say(super::words::END);
 }
 
 // Holder i's response at the front of an output of bytes AA, all of which is printed.
 fn copies(r: &[u8], i: usize, out: &mut [u8]) {
     lent::fill(out, 0, out.len(), 170);
-    super::print::text(b"response");
+    super::words::say(super::words::RESPONSE);
     super::print::number(response::response_length(r, i) as u64);
-    said(b": copied", response::copy_out(r, i, out));
+    said(super::words::COPIED, response::copy_out(r, i, out));
     super::print::bytes(out);
-    super::print::text(b"\n");
+    super::words::say(super::words::END);
 }
 
 // A response of 351 bytes into an output that is too short, one that fits, and one that is longer.
@@ -69,9 +83,9 @@ fn outputs(r: &[u8]) {
 
 // Whether a piece of n bytes is taken for holder i.
 fn piece(r: &mut [u8], i: usize, n: usize, v: u8) {
-    super::print::text(b"piece of");
+    super::words::say(super::words::PIECE_OF);
     super::print::number(n as u64);
-    said(b": taken", append(r, i, n, v));
+    said(super::words::TAKEN, append(r, i, n, v));
     holding(r, i);
 }
 
@@ -85,56 +99,36 @@ fn pieces(r: &mut [u8]) {
 }
 
 fn eleven(r: &mut [u8]) {
-    super::print::text(b"P11\n");
+    super::words::say(super::words::P11);
     opens(
         r,
-        b"\x0A\x0A\x0A\x0A\x0A\x0A\x0A\x0A",
-        b"\x60\x0A\x0A\x0A\x0A\x0A\x0A\x0A",
+        b"\x0A\x0A\x0A\x0A\x0A\x0A\x0A\x0A\x60\x0A\x0A\x0A\x0A\x0A\x0A\x0A",
     );
     pieces(r);
     outputs(r);
     pool::release(r, 0);
-    super::print::text(b"released:");
+    super::words::say(super::words::RELEASED);
     holding(r, 0);
 }
 
 // P12, and the other limits from both sides.
 fn twelve(r: &mut [u8]) {
-    super::print::text(b"P12\n");
-    opens(
-        r,
-        b"\x0C\x0C\x0C\x0C\x0C\x0C\x0C\x0C",
-        b"\x60\x60\x60\x60\x60\x60\x60\x60",
-    );
-    opens(
-        r,
-        b"\x0D\x0C\x0C\x0C\x0C\x0C\x0C\x0C",
-        b"\x60\x60\x60\x60\x60\x60\x60\x60",
-    );
-    opens(
-        r,
-        b"\x00\x00\x00\x00\x00\x00\x00\x60",
-        b"\x00\x00\x00\x00\x00\x00\x00\x60",
-    );
-    opens(
-        r,
-        b"\x00\x00\x00\x00\x00\x00\x00\x00",
-        b"\x00\x00\x00\x00\x00\x00\x00\x61",
-    );
-    opens(
-        r,
-        b"\x01\x00\x00\x00\x00\x00\x00\x00",
-        b"\x00\x60\x60\x60\x60\x60\x60\x60",
-    );
+    let list =
+        b"\x0C\x0C\x0C\x0C\x0C\x0C\x0C\x0C\x60\x60\x60\x60\x60\x60\x60\x60\x0D\x0C\x0C\x0C\x0C\x0C\x0C\x0C\x60\x60\x60\x60\x60\x60\x60\x60\x00\x00\x00\x00\x00\x00\x00\x60\x00\x00\x00\x00\x00\x00\x00\x60\x00\x00\x00\x00\x00\x00\x00\x00\x00\x00\x00\x00\x00\x00\x00\x61\x01\x00\x00\x00\x00\x00\x00\x00\x00\x60\x60\x60\x60\x60\x60\x60";
+    super::words::say(super::words::P12);
+    let mut i: usize = 0;
+    while i < 5 {
+        opens(r, lent::part(list, i * 16, 16));
+        i += 1;
+    }
 }
 
 // Pieces of 0, 1, 254 and 255 bytes for a holder below its share.
 fn sizes(r: &mut [u8]) {
-    super::print::text(b"sizes\n");
+    super::words::say(super::words::SIZES);
     opens(
         r,
-        b"\x0C\x0C\x0C\x0C\x0C\x0C\x0C\x0C",
-        b"\x0C\x0C\x0C\x0C\x0C\x0C\x0C\x0C",
+        b"\x0C\x0C\x0C\x0C\x0C\x0C\x0C\x0C\x0C\x0C\x0C\x0C\x0C\x0C\x0C\x0C",
     );
     piece(r, 7, 0, 1);
     piece(r, 7, 1, 2);

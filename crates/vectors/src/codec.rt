@@ -6,41 +6,41 @@ use block::Event;
 fn sends(pcb: u8, inf: &[u8]) {
     let mut out = [0u8; 260];
     let n = block::build(&mut out, pcb, inf);
-    super::print::text(b"sends");
+    super::words::say(super::words::SENDS);
     super::print::bytes(lent::part(&out, 0, n));
-    super::print::text(b"\n");
+    super::words::say(super::words::END);
 }
 
 // What an event is read as.
 fn shown(kind: u64, s: &[u8]) {
-    super::print::text(b": ");
+    super::words::say(super::words::COLON);
     super::print::event(block::read(kind, s));
-    super::print::text(b"\n");
+    super::words::say(super::words::END);
 }
 
 // What an event is read as, and its INF.
 fn receives(kind: u64, s: &[u8]) {
-    super::print::text(b"receives");
+    super::words::say(super::words::RECEIVES);
     super::print::bytes(block::inf(block::read(kind, s), s));
     shown(kind, s);
 }
 
 fn seven_and_eight() {
-    super::print::text(b"P7\n");
+    super::words::say(super::words::P7);
     sends(0xC1, b"\xFE");
     receives(0, b"\x00\xE1\x01\xFE\x1E");
-    super::print::text(b"P8\n");
+    super::words::say(super::words::P8);
     sends(0x00, b"\x00\xA4\x04\x00");
     receives(0, b"\x00\x00\x02\x90\x00\x92");
 }
 
 fn nine_and_ten() {
-    super::print::text(b"P9\n");
+    super::words::say(super::words::P9);
     receives(1, b"\x00\x00\x02\x90\x00\x92");
     sends(0x81, b"");
     receives(2, b"");
     sends(0x82, b"");
-    super::print::text(b"P10\n");
+    super::words::say(super::words::P10);
     receives(0, b"\x00\xC3\x01\x03\xC1");
     sends(0xE3, b"\x03");
 }
@@ -56,7 +56,7 @@ fn long(len: u8) {
     let n = len as usize;
     numbers::put8(&mut s, 2, len);
     numbers::put8(&mut s, n + 3, len);
-    super::print::text(b"LEN");
+    super::words::say(super::words::LEN);
     super::print::byte(len);
     shown(0, lent::part(&s, 0, n + 4));
 }
@@ -66,9 +66,9 @@ fn built(len: u8) {
     let mut s = [0u8; 260];
     let zeros = [0u8; 260];
     let n = block::build(&mut s, 0x00, lent::part(&zeros, 0, len as usize));
-    super::print::text(b"built");
+    super::words::say(super::words::BUILT);
     super::print::number(n as u64);
-    super::print::text(b"\n");
+    super::words::say(super::words::END);
 }
 
 // A card's request for an IFS of one byte.
@@ -76,7 +76,7 @@ fn size(v: u8) {
     let mut s = [0u8; 5];
     let inf = [v];
     block::build(&mut s, 0xC1, &inf);
-    super::print::text(b"IFS byte");
+    super::words::say(super::words::IFS_BYTE);
     super::print::byte(v);
     shown(0, &s);
 }
@@ -135,22 +135,22 @@ fn count(kind: u8, len: u8, fault: u8) -> u64 {
 }
 
 // The counts of the eight kinds, in the order of `kind_of`.
-fn every_pcb(name: &[u8], len: u8, fault: u8) {
-    super::print::text(name);
+fn every_pcb(word: usize, len: u8, fault: u8) {
+    super::words::say(word);
     let mut kind: u8 = 0;
     while kind < 8 {
         super::print::number(count(kind, len, fault));
         kind += 1;
     }
-    super::print::text(b"\n");
+    super::words::say(super::words::END);
 }
 
 pub(crate) fn every_code() {
-    super::print::text(b"every PCB as I, R, IFS request, IFS response, abort, WTX, EDC, other\n");
-    every_pcb(b"LEN 0, LRC right:", 0, 0);
-    every_pcb(b"LEN 0, LRC wrong:", 0, 1);
-    every_pcb(b"LEN 1, LRC right:", 1, 0);
-    every_pcb(b"LEN 1, LRC wrong:", 1, 1);
-    every_pcb(b"LEN 2, LRC right:", 2, 0);
-    every_pcb(b"LEN 2, LRC wrong:", 2, 1);
+    super::words::say(super::words::EVERY);
+    every_pcb(super::words::RIGHT_0, 0, 0);
+    every_pcb(super::words::WRONG_0, 0, 1);
+    every_pcb(super::words::RIGHT_1, 1, 0);
+    every_pcb(super::words::WRONG_1, 1, 1);
+    every_pcb(super::words::RIGHT_2, 2, 0);
+    every_pcb(super::words::WRONG_2, 2, 1);
 }

@@ -7,6 +7,7 @@ mod print;
 mod runs;
 mod script;
 mod sessions;
+mod words;
 
 fn pools() {
     let mut region = [170u8; 25464];

@@ -79,11 +79,11 @@ fn calls(r: &mut [u8]) -> usize
 }
 
 fn holder(r: &[u8], i: usize) {
-    super::print::text(b"holder");
+    super::words::say(super::words::HOLDER);
     super::print::number(i as u64);
-    super::print::text(b": length");
+    super::words::say(super::words::LENGTH);
     super::print::number(response::response_length(r, i) as u64);
-    super::print::text(b" response");
+    super::words::say(super::words::FOLDED);
     super::print::number(response_folded(r, i) as u64);
     super::cells::holding(r, i);
 }
@@ -98,20 +98,19 @@ fn holders(r: &[u8]) {
 }
 
 fn made(r: &mut [u8]) {
-    super::print::text(b"answers");
+    super::words::say(super::words::ANSWERS);
     super::print::number(calls(r) as u64);
-    super::print::text(b" bytes");
+    super::words::say(super::words::BYTES);
     super::print::number(bytes_folded(r) as u64);
-    super::print::text(b"\n");
+    super::words::say(super::words::END);
     holders(r);
 }
 
 pub(crate) fn mixed(r: &mut [u8]) {
-    super::print::text(b"mixed\n");
+    super::words::say(super::words::MIXED);
     super::cells::opens(
         r,
-        b"\x04\x0C\x14\x00\x0A\x0A\x0A\x0A",
-        b"\x0A\x28\x60\x03\x0A\x0C\x32\x60",
+        b"\x04\x0C\x14\x00\x0A\x0A\x0A\x0A\x0A\x28\x60\x03\x0A\x0C\x32\x60",
     );
     made(r);
 }
@@ -156,14 +155,14 @@ fn damaged(r: &mut [u8], v: u8, whole: bool) -> usize
 
 fn changed(r: &mut [u8], v: u8, whole: bool) {
     if whole {
-        super::print::text(b"set to");
+        super::words::say(super::words::SET_TO);
     } else {
-        super::print::text(b"changed by");
+        super::words::say(super::words::CHANGED_BY);
     }
     super::print::byte(v);
-    super::print::text(b": sound at");
+    super::words::say(super::words::SOUND_AT);
     super::print::number(damaged(r, v, whole) as u64);
-    super::print::text(b"\n");
+    super::words::say(super::words::END);
 }
 
 pub(crate) fn damage(r: &mut [u8]) {
@@ -190,7 +189,7 @@ fn scatter(s: &mut [u8], x: usize)
 
 // The same calls on bytes that are no sound region.
 pub(crate) fn unsound(r: &mut [u8]) {
-    super::print::text(b"unsound\n");
+    super::words::say(super::words::UNSOUND);
     scatter(r, 1);
     made(r);
     scatter(r, 77);
@@ -201,15 +200,14 @@ pub(crate) fn unsound(r: &mut [u8]) {
 fn length(s: &mut [u8]) {
     super::cells::opens(
         s,
-        b"\x00\x00\x00\x00\x00\x00\x00\x00",
-        b"\x00\x00\x00\x00\x00\x00\x00\x00",
+        b"\x00\x00\x00\x00\x00\x00\x00\x00\x00\x00\x00\x00\x00\x00\x00\x00",
     );
     super::print::bytes(lent::part(s, 25460, 10));
-    super::print::text(b"\n");
+    super::words::say(super::words::END);
 }
 
 pub(crate) fn lengths() {
-    super::print::text(b"lengths\n");
+    super::words::say(super::words::LENGTHS);
     let mut short = [170u8; 25463];
     length(&mut short);
     let mut long = [170u8; 25470];

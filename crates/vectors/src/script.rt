@@ -98,10 +98,18 @@ fn told(figure: u16, numbers: &[usize; 9], out: &[u8], op: u8) -> u16 {
 
 fn written(out: &[u8], op: u8) {
     if op < 128 {
-        super::print::text(b":");
+        super::words::say(super::words::BYTES_FOLLOW);
         super::print::bytes(out);
-        super::print::text(b"\n");
+        super::words::say(super::words::END);
     }
+}
+
+// What a call answered: its block or response written, printed if it is wanted, and folded.
+fn answered(r: &[u8], step: Step, kept: &[u8], out: &mut [u8], op: u8, figure: u16) -> u16 {
+    let length = place(out, step, kept);
+    let folded = told(figure, &numbers(r, step, length), out, op);
+    written(lent::part(out, 0, length), op);
+    folded
 }
 
 // Makes a call with an output of bytes AA.
@@ -110,9 +118,7 @@ fn play(r: &mut [u8], seat: Seat, kept: &mut [u8], op: u8, a: u8, bytes: &[u8]) 
     let slot = seat.slot;
     let step = call(r, slot, op % 128, a, bytes, &mut out);
     keep(kept, op, step.number, bytes);
-    let length = place(&mut out, step, kept);
-    let figure = told(seat.figure, &numbers(r, step, length), &out, op);
-    written(lent::part(&out, 0, length), op);
+    let figure = answered(r, step, kept, &mut out, op, seat.figure);
     let next = step.next;
     let then = next.slot;
     Seat {
@@ -123,11 +129,11 @@ fn play(r: &mut [u8], seat: Seat, kept: &mut [u8], op: u8, a: u8, bytes: &[u8]) 
 
 // The figure of the run that ends, and the name of the next.
 fn named(figure: u16, bytes: &[u8]) {
-    super::print::text(b"figure");
+    super::words::say(super::words::FIGURE);
     super::print::number(figure as u64);
-    super::print::text(b"\n");
+    super::words::say(super::words::END);
     super::print::text(bytes);
-    super::print::text(b"\n");
+    super::words::say(super::words::END);
 }
 
 fn line(r: &mut [u8], seat: Seat, kept: &mut [u8], op: u8, a: u8, bytes: &[u8]) -> Seat {
@@ -163,7 +169,7 @@ fn each(r: &mut [u8], script: &[u8])
 
 pub(crate) fn played(script: &[u8]) {
     let mut region = [170u8; 25464];
-    super::print::text(b"sessions\n");
+    super::words::say(super::words::SESSIONS);
     if script.len() <= 65536 {
         each(&mut region, script);
     }

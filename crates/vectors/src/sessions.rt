@@ -1,6 +1,7 @@
 // The calls on slot 0, whose cells are in the region r of a pool. The slot goes in and comes back by value; the numbers 4 to
 // 12 and 2 are answered here, as the rack will.
 use atr::Answer;
+use slot::Line;
 use slot::Next;
 use slot::Send;
 use slot::Slot;
@@ -70,39 +71,54 @@ pub(crate) fn command(slot: Slot, bytes: &[u8]) -> Step {
     still(slot, 7)
 }
 
-pub(crate) fn event(r: &mut [u8], slot: Slot, kind: u8, bytes: &[u8]) -> Step {
+// An event of a kind that there is.
+fn heard(r: &mut [u8], slot: Slot, kind: u64, bytes: &[u8]) -> Step {
     if let Slot::Greeting { line, sent } = slot {
-        if kind > 2 {
-            return still(slot, 6);
-        }
-        return made(terminal::greet(line, sent, kind as u64, bytes));
+        return made(terminal::greet(line, sent, kind, bytes));
     }
     let Slot::Busy { talk } = slot else {
         return still(slot, 4);
     };
-    if kind > 2 {
-        return still(slot, 6);
-    }
-    made(terminal::event(r, 0, talk, kind as u64, bytes))
+    made(terminal::event(r, 0, talk, kind, bytes))
 }
 
-// Collects into the first n bytes of the output: 5 if they are too few, and the slot is still done.
+// 6 for a kind that there is not, but 4 comes first.
+pub(crate) fn event(r: &mut [u8], slot: Slot, kind: u8, bytes: &[u8]) -> Step {
+    if kind <= 2 {
+        return heard(r, slot, kind as u64, bytes);
+    }
+    let state = state_of(slot);
+    if state == 1 {
+        return still(slot, 6);
+    }
+    if state == 3 {
+        return still(slot, 6);
+    }
+    still(slot, 4)
+}
+
+// Collects into all of the output: 5 if it is too short, and the slot is still done.
+fn collected(r: &mut [u8], line: Line, out: &mut [u8]) -> Step {
+    let length = response::response_length(r, 0);
+    let next = terminal::collect(r, 0, line, out);
+    let then = next.slot;
+    if state_of(then) != 4 {
+        return Step {
+            number: 0,
+            length: length,
+            next: next,
+        };
+    }
+    still(then, 5)
+}
+
+// Collects into the first n bytes of the output.
 pub(crate) fn collect(r: &mut [u8], slot: Slot, n: usize, out: &mut [u8]) -> Step {
     let Slot::Done { line } = slot else {
         return still(slot, 4);
     };
-    let length = response::response_length(r, 0);
     if n <= out.len() {
-        let next = terminal::collect(r, 0, line, &mut out[..n]);
-        let then = next.slot;
-        if state_of(then) != 4 {
-            return Step {
-                number: 0,
-                length: length,
-                next: next,
-            };
-        }
-        return still(then, 5);
+        return collected(r, line, &mut out[..n]);
     }
     still(slot, 5)
 }
@@ -116,11 +132,7 @@ pub(crate) fn remove(r: &mut [u8], slot: Slot) -> Step {
 
 // Open, with eight shares and then eight ceilings.
 pub(crate) fn open(r: &mut [u8], slot: Slot, limits: &[u8]) -> Step {
-    let mut shares = [0u8; 8];
-    let mut ceilings = [0u8; 8];
-    lent::put(&mut shares, 0, lent::part(limits, 0, 8));
-    lent::put(&mut ceilings, 0, lent::part(limits, 8, 8));
-    if pool::lay_out(r, &shares, &ceilings) {
+    if super::cells::laid(r, limits) {
         return still(Slot::Empty, 0);
     }
     still(slot, 2)

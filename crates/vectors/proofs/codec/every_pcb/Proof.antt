@@ -6,13 +6,13 @@ use Rattle.vectors.proofs.codec.every_pcb.Statement.{statement}
 use Rattle.vectors.proofs.codec.every_pcb.Tie as tie
 
 abbrev Inv-loop : tie.InvT-loop
-Inv-loop name len fault kind₀ t5 kind = kind ≤ 8
+Inv-loop word len fault kind₀ kind = kind ≤ 8
 
 abbrev μ-loop : tie.MeasureT-loop
-μ-loop name len fault kind₀ t5 kind = 8 - kind
+μ-loop word len fault kind₀ kind = 8 - kind
 
-text-requires : tie.Need-text-requires Inv-loop μ-loop
-text-requires c κs = search needs
+say-requires : tie.Need-say-requires Inv-loop μ-loop
+say-requires c κs = search needs
 
 loop-holds : tie.Need-loop-holds Inv-loop μ-loop
 loop-holds c = omega arith
@@ -32,11 +32,8 @@ loop-less c = omega arith
 loop-again : tie.Need-loop-again Inv-loop μ-loop
 loop-again c = omega arith
 
-slice-aggregate-text : tie.Need-slice-aggregate-text Inv-loop μ-loop
-slice-aggregate-text c = omega arith
-
-text-requires-2 : tie.Need-text-requires-2 Inv-loop μ-loop
-text-requires-2 c κs = search needs
+say-requires-2 : tie.Need-say-requires-2 Inv-loop μ-loop
+say-requires-2 c κs = search needs
 
 returns : tie.Need-returns Inv-loop μ-loop
 returns c = search needs
@@ -47,13 +44,12 @@ every-pcb-spec =
     (tie.spec
     Inv-loop
     μ-loop
-    text-requires
+    say-requires
     loop-holds
     count-requires
     number-requires
     add-kind
     loop-less
     loop-again
-    slice-aggregate-text
-    text-requires-2
+    say-requires-2
     returns)

@@ -14,20 +14,14 @@ still-requires c κs = search needs
 returns : tie.Need-returns
 returns c = search needs
 
-response-length-requires : tie.Need-response-length-requires
-response-length-requires c κs = search needs
+slice-relend-prefix-collected : tie.Need-slice-relend-prefix-collected
+slice-relend-prefix-collected c = search needs
 
-slice-relend-prefix-collect : tie.Need-slice-relend-prefix-collect
-slice-relend-prefix-collect c = search needs
+slice-aggregate-collected : tie.Need-slice-aggregate-collected
+slice-aggregate-collected c = simp length-take (omega arith)
 
-slice-aggregate-collect : tie.Need-slice-aggregate-collect
-slice-aggregate-collect c = simp length-take (omega arith)
-
-collect-requires : tie.Need-collect-requires
-collect-requires c κs = search needs
-
-state-of-requires : tie.Need-state-of-requires
-state-of-requires c κs = search needs
+collected-requires : tie.Need-collected-requires
+collected-requires c κs = search needs
 
 same-length : tie.Need-same-length
 same-length c = search needs
@@ -41,23 +35,8 @@ returns-2 c = search needs
 still-requires-2 : tie.Need-still-requires-2
 still-requires-2 c κs = search needs
 
-same-length-3 : tie.Need-same-length-3
-same-length-3 c = search needs
-
-same-length-4 : tie.Need-same-length-4
-same-length-4 c = search needs
-
 returns-3 : tie.Need-returns-3
 returns-3 c = search needs
-
-still-requires-3 : tie.Need-still-requires-3
-still-requires-3 c κs = search needs
-
-same-length-5 : tie.Need-same-length-5
-same-length-5 c = search needs
-
-returns-4 : tie.Need-returns-4
-returns-4 c = search needs
 
 pub collect-spec : {M : Type 1} → statement M
 collect-spec =
@@ -66,18 +45,11 @@ collect-spec =
     enum-known-slot
     still-requires
     returns
-    response-length-requires
-    slice-relend-prefix-collect
-    slice-aggregate-collect
-    collect-requires
-    state-of-requires
+    slice-relend-prefix-collected
+    slice-aggregate-collected
+    collected-requires
     same-length
     same-length-2
     returns-2
     still-requires-2
-    same-length-3
-    same-length-4
-    returns-3
-    still-requires-3
-    same-length-5
-    returns-4)
+    returns-3)
