@@ -1,4 +1,4 @@
--- Each public function's promise settles its answer and every byte behind its `&mut`. Assumes nothing.
+-- Each public function's promise settles its answer. Assumes nothing.
 use mathlib.Core.Path.{sym, _∙_}
 use denote.Ref.{now}
 use Rattle.lent.proofs.Settles.{Settles}
@@ -8,8 +8,6 @@ use Rattle.block.proofs.reader.read.Kinds as read-kinds
 use Rattle.block.proofs.reader.read.Reads as read
 use Rattle.block.proofs.reader.inf.Kinds as inf-kinds
 use Rattle.block.proofs.reader.inf.Reads as inf
-use Rattle.block.proofs.builder.build.Kinds as build-kinds
-use Rattle.block.proofs.builder.build.Reads as build
 
 pub lrc-answer : Settles lrc-kinds.ps lrc-kinds.r lrc.Post (λ κs r s. r)
 lrc-answer κs a x y s t f g = f ∙ sym g
@@ -21,10 +19,3 @@ read-answer κs a x y s t f g = f ∙ sym g
 
 pub inf-shown : Settles inf-kinds.ps inf-kinds.r inf.Post (λ κs r s. now r)
 inf-shown κs a x y s t f g = f ∙ sym g
-
--- the length that is answered, and all of the output
-pub build-answer : Settles build-kinds.ps build-kinds.r build.Post (λ κs r s. r)
-build-answer κs a x y s t f g = f .0 ∙ sym (g .0)
-
-pub build-bytes : Settles build-kinds.ps build-kinds.r build.Post (λ κs r s. now (s .0))
-build-bytes κs a x y s t f g = f .1 ∙ sym (g .1)

@@ -1,8 +1,7 @@
 // The check that ends a block. Its length and its function stand here and nowhere else.
 ghost use mathlib.Core.Path.{_≡_};
-ghost use Rattle.lent.specs.Place.{window, splice};
 ghost use Rattle.block.specs.Lrc.{lrcOf};
-ghost use Rattle.block.specs.Check.{checkOf, checkRight};
+ghost use Rattle.block.specs.Check.{checkRight};
 
 // How many bytes it takes.
 pub(crate) const CHECK: usize = 1;
@@ -25,12 +24,4 @@ pub(crate) fn is_right(block: &[u8]) -> bool
     ensures { λ r. ⌜ r ≡ checkRight (now (block .entry)) ⌝ }
 {
     lrc(block) == 0
-}
-
-// Writes the check of the first n bytes behind them.
-pub(crate) fn put_check(out: &mut [u8], n: usize)
-    ensures { λ _. ⌜ now (out .exit) ≡ splice (now (out .entry)) n (checkOf (window (now (out .entry)) 0 n)) ⌝ }
-{
-    let x = lrc(lent::part(out, 0, n));
-    numbers::put8(out, n, x);
 }

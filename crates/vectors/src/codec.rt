@@ -5,7 +5,7 @@ use block::Event;
 // What goes out for a PCB and an INF.
 fn sends(pcb: u8, inf: &[u8]) {
     let mut out = [0u8; 260];
-    let n = block::build(&mut out, pcb, inf);
+    let n = builder::build(&mut out, pcb, inf);
     super::words::say(super::words::SENDS);
     super::print::bytes(lent::part(&out, 0, n));
     super::words::say(super::words::END);
@@ -65,7 +65,7 @@ fn long(len: u8) {
 fn built(len: u8) {
     let mut s = [0u8; 260];
     let zeros = [0u8; 260];
-    let n = block::build(&mut s, 0x00, lent::part(&zeros, 0, len as usize));
+    let n = builder::build(&mut s, 0x00, lent::part(&zeros, 0, len as usize));
     super::words::say(super::words::BUILT);
     super::print::number(n as u64);
     super::words::say(super::words::END);
@@ -75,7 +75,7 @@ fn built(len: u8) {
 fn size(v: u8) {
     let mut s = [0u8; 5];
     let inf = [v];
-    block::build(&mut s, 0xC1, &inf);
+    builder::build(&mut s, 0xC1, &inf);
     super::words::say(super::words::IFS_BYTE);
     super::print::byte(v);
     shown(0, &s);
@@ -112,7 +112,7 @@ fn is_kind(kind: u8, pcb: u8, len: u8, fault: u8) -> u64
 {
     let inf = [0x20u8; 2];
     let mut s = [0u8; 6];
-    let n = block::build(&mut s, pcb, lent::part(&inf, 0, len as usize));
+    let n = builder::build(&mut s, pcb, lent::part(&inf, 0, len as usize));
     let at = (len as usize) + 3;
     let lrc = numbers::get8(&s, at);
     numbers::put8(&mut s, at, lrc ^ fault);

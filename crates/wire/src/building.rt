@@ -11,11 +11,11 @@ pub fn send(out: &mut [u8], b: Send, command: &[u8]) -> usize
 {
     match b {
         Send::Nothing => 0,
-        Send::I { pcb, from, len } => block::build(out, pcb, lent::part(command, from, len)),
-        Send::R { pcb } => block::build(out, pcb, lent::part(command, 0, 0)),
+        Send::I { pcb, from, len } => builder::build(out, pcb, lent::part(command, from, len)),
+        Send::R { pcb } => builder::build(out, pcb, lent::part(command, 0, 0)),
         Send::S { pcb, byte } => {
             let inf = [byte];
-            block::build(out, pcb, &inf)
+            builder::build(out, pcb, &inf)
         }
     }
 }

@@ -3,10 +3,10 @@ ghost use mathlib.Core.Path.{_≡_};
 ghost use Prim.Native.Nat.{_+_, _≤_};
 ghost use lib.ListN.{length};
 ghost use Rattle.lent.specs.Place.{splice};
 ghost use Rattle.block.specs.Block.{frame, blockOf};
 ghost use Rattle.block.specs.Builder.{builtLength, builtOut};
-use super::FRAME;
-use super::INF_AT;
+use block::FRAME;
+use block::INF_AT;
 
 // Writes the block at the front of an output that holds it.
 fn write(out: &mut [u8], pcb: u8, inf: &[u8])

@@ -1,4 +1,4 @@
--- `block::builder::build`: nothing where a test refuses, and what `write` ensures past both. Assumes nothing.
+-- `builder::builder::build`: nothing where a test refuses, and what `write` ensures past both. Assumes nothing.
 use Prim.Native.Nat.{_+_}
 use mathlib.Core.Path.{sym, _∙_}
 use native.Mathlib.Omega.{arith}
@@ -6,10 +6,10 @@ use lib.ListN.{length}
 use denote.Ref.{now}
 use borrow.Author.Needs.{needs}
 use borrow.Author.Tests.{lt-leb, le-leb}
 use Rattle.block.specs.Block.{frame}
 use Rattle.block.specs.Builder.{builtLength, builtOut}
-use Rattle.block.proofs.builder.build.Statement.{statement}
-use Rattle.block.proofs.builder.build.Tie as tie
+use Rattle.builder.proofs.builder.build.Statement.{statement}
+use Rattle.builder.proofs.builder.build.Tie as tie
 
 returns : tie.Need-returns
 unfolding builtLength builtOut

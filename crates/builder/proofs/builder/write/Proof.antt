@@ -1,16 +1,16 @@
--- `block::builder::write`: head, INF and check are written one behind the other. Assumes nothing.
+-- `builder::builder::write`: head, INF and check are written one behind the other. Assumes nothing.
 use mathlib.Core.Path.{ap, _∙_}
 use mathlib.Core.List.{List}
 use Prim.Native.Nat.{ℕ, _+_}
 use lib.ListN.{length}
 use denote.Ref.{now}
 use Rattle.lent.specs.Place.{window, splice}
 use Rattle.block.specs.Check.{checkOf}
 use Rattle.block.specs.Block.{infAt}
 use Rattle.block.proofs.BuilderLaws.{written}
 use borrow.Author.Needs.{needs}
-use Rattle.block.proofs.builder.write.Statement.{statement}
-use Rattle.block.proofs.builder.write.Tie as tie
+use Rattle.builder.proofs.builder.write.Statement.{statement}
+use Rattle.builder.proofs.builder.write.Tie as tie
 
 cast-t6 : tie.Need-cast-t6
 cast-t6 c = search needs

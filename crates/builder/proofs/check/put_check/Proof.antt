@@ -1,14 +1,14 @@
--- `block::check::put_check`: the LRC of the part that was lent on, written behind it. Assumes nothing.
+-- `builder::check::put_check`: the LRC of the part that was lent on, written behind it. Assumes nothing.
 use mathlib.Core.Path.{ap, _∙_}
 use mathlib.Core.List.{[], _∷_}
 use Prim.Native.Nat.{ℕ}
 use denote.Ref.{now}
 use Rattle.lent.specs.Place.{splice}
 use Rattle.block.specs.Lrc.{lrcOf}
 use Rattle.block.specs.Check.{checkOf}
 use borrow.Author.Needs.{needs}
-use Rattle.block.proofs.check.put_check.Statement.{statement}
-use Rattle.block.proofs.check.put_check.Tie as tie
+use Rattle.builder.proofs.check.put_check.Statement.{statement}
+use Rattle.builder.proofs.check.put_check.Tie as tie
 
 part-requires : tie.Need-part-requires
 part-requires c κs = search needs

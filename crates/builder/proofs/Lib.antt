@@ -1,0 +1,2 @@
+-- That the promise settles its answer and its bytes.
+pub mod Settled
