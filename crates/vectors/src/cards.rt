@@ -7,7 +7,7 @@ fn card(s: &[u8]) {
     super::words::say(super::words::ATR);
     super::print::bytes(s);
     super::words::say(super::words::COLON);
-    super::print::answer(atr::read(s));
+    super::print::answer(reset::read(s));
     super::words::say(super::words::END);
 }
 

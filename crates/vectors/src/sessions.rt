@@ -54,7 +54,7 @@ pub(crate) fn attach(slot: Slot, bytes: &[u8]) -> Step {
     if state_of(slot) != 0 {
         return still(slot, 4);
     }
-    let answer = atr::read(bytes);
+    let answer = reset::read(bytes);
     match answer {
         Answer::Refused { number } => still(slot, number),
         Answer::Taken { report } => made(greeting::attach(report)),

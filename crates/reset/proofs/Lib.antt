@@ -1,0 +1,2 @@
+-- That the promise settles its answer.
+pub mod Settled
