@@ -7,8 +7,8 @@ use native.Mathlib.Nat.{add-zero}
 use native.Mathlib.Numerals.{add-one}
 use native.Mathlib.Omega.{arith}
 use lib.Dec.{leb}
-use lib.ListN.{length, take, drop, getD, set, replicate, length-replicate, length-append, length-take, length-drop, take-append-drop, drop-of-length-le}
-use lib.Seq.{take-all, take-append-le, drop-append-le, drop-append-add, take-at, drop-cons, getD-drop, getD-take, drop-drop, take-length, take-nil, length-take-le, paste, append-snoc, set-split, set-out}
+use lib.ListN.{length, take, drop, getD, set, replicate, length-replicate, replicate-append-replicate, length-append, length-take, length-drop, take-append-drop, drop-of-length-le}
+use lib.Seq.{take-all, take-append-le, drop-append-le, drop-append-add, take-at, drop-at, drop-cons, getD-drop, getD-take, drop-drop, take-length, take-nil, length-take-le, paste, append-snoc, set-split, set-out}
 use borrow.Author.Tests.{le-leb, lt-leb, leb-true}
 use borrow.Rule.Slice.PartMut.{putMid}
 use Rattle.lent.specs.Place.{within, window, splice}
@@ -64,6 +64,26 @@ window-whole t = take-length t
 pub window-rest : (t : List ℕ) (a n : ℕ) → length t ≤ a + n → window t a n ≡ drop a t
 unfolding window
 window-rest t a n h = take-all n (drop a t) (omega (arith, length-drop a t))
+
+-- a part read again by its own length
+pub window-own : (t : List ℕ) (a n : ℕ) → window t a (length (window t a n)) ≡ window t a n
+unfolding window
+window-own t a n =
+    let w : List ℕ = take n (drop a t) in
+    ap (take (length w)) (sym (take-append-drop n (drop a t))) ∙ take-at w (drop n (drop a t)) (length w) refl
+
+-- a part of bytes that are all alike
+pub window-replicate : (m v a n : ℕ) → a + n ≤ m → window (replicate m v) a n ≡ replicate n v
+unfolding window
+window-replicate m v a n h =
+    let k : ℕ = m - (a + n) in
+    let e : a + (n + k) ≡ m = omega arith in
+    let split : replicate m v ≡ replicate a v ++ (replicate n v ++ replicate k v) =
+    ap (λ (j : ℕ). replicate j v) (sym e)
+    ∙ sym (replicate-append-replicate a (n + k) v)
+    ∙ ap (λ (l : List ℕ). replicate a v ++ l) (sym (replicate-append-replicate n k v)) in
+    rw (split, drop-at (replicate a v) (replicate n v ++ replicate k v) a (length-replicate {A = ℕ} a v))
+    (take-at (replicate n v) (replicate k v) n (length-replicate {A = ℕ} n v))
 
 -- a part that ends in the first of two lists
 front : (p q : List ℕ) (b n : ℕ) → b + n ≤ length p → take n (drop b (p ++ q)) ≡ take n (drop b p)
@@ -141,6 +161,11 @@ module _ (t : List ℕ) (a : ℕ) (xs : List ℕ) where
         ∙ window-inside 0 (length xs) (omega arith)
         ∙ window-whole xs
 
+  -- a part that what was written does not meet
+  pub window-apart : (b n : ℕ) → (a < b + n → b < a + length xs → ⊥) → window (splice t a xs) b n ≡ window t b n
+  window-apart b n out =
+      le-or-lt (b + n) a (window-before b n) (λ h. le-or-lt (a + length xs) b (window-after b n) (λ l. absurd (out h l)))
+
 -- ---- one byte after a write
 
 byte-window : (t : List ℕ) (j : ℕ) → getD t j 0 ≡ getD (window t j 1) 0 0
@@ -164,6 +189,17 @@ pub splice-none : (t : List ℕ) (a : ℕ) → splice t a [] ≡ t
 unfolding over
 splice-none t a =
     splice-case t a [] (λ (l : List ℕ). l ≡ t) (λ h. rw (append-nil (take a t), add-zero) (take-append-drop a t)) refl
+
+-- a write of what stands there
+pub splice-own : (t : List ℕ) (a n : ℕ) → splice t a (window t a n) ≡ t
+unfolding over window
+splice-own t a n =
+    let d : List ℕ = drop a t in
+    let w : List ℕ = take n d in
+    let r : drop (a + length w) t ≡ drop n d =
+    sym (drop-drop (length w) a t) ∙ ap (drop (length w)) (sym (take-append-drop n d)) ∙ drop-at w (drop n d) (length w) refl in
+    splice-case t a (window t a n) (λ (l : List ℕ). l ≡ t)
+    (λ h. rw (r, append-assoc (take a t) w (drop n d), take-append-drop n d) (take-append-drop a t)) refl
 
 -- a write of one byte
 pub splice-one : (t : List ℕ) (a v : ℕ) → splice t a (v ∷ []) ≡ set t a v
