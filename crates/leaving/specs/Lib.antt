@@ -1,0 +1,2 @@
+-- What collect and remove leave.
+pub mod Leave

@@ -1,0 +1,2 @@
+-- That each promise settles its bytes.
+pub mod Settled
