@@ -1,5 +1,7 @@
 // The ATR: the rules that its interface bytes are under, and what attach reports of it. Its bytes are walked and read by the
 // crate `reset`; specs/ has all of it.
+#![tactic(auto)]
+
 mod rates;
 mod reader;
 mod report;

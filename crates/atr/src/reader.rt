@@ -7,7 +7,7 @@ use super::report::Report;
 use super::walk::Interface;
 
 // The answer: the number that refuses the ATR, 8 to 12, or what attach reports.
-#[derive(Drop)]
+#[derive(Clone, Copy)]
 pub enum Answer {
     Refused { number: u8 },
     Taken { report: Report },

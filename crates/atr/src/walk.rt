@@ -4,7 +4,7 @@
 pub const ABSENT: u16 = 256;
 
 // TAi, TBi, TCi and TDi.
-#[derive(Drop)]
+#[derive(Clone, Copy)]
 pub struct Group {
     pub ta: u16,
     pub tb: u16,
@@ -13,7 +13,7 @@ pub struct Group {
 }
 
 // The interface bytes that are read.
-#[derive(Drop)]
+#[derive(Clone, Copy)]
 pub struct Interface {
     pub ta1: u16,
     pub tc1: u16,
@@ -26,7 +26,7 @@ pub struct Interface {
 }
 
 // Where the groups end, and whether TCK is there.
-#[derive(Drop)]
+#[derive(Clone, Copy)]
 pub struct End {
     pub at: usize,
     pub tck: bool,

@@ -3,7 +3,7 @@ ghost use Rattle.std.specs.Prelude.{◌≡◌};
 ghost use Rattle.block.specs.Event.{named_of, between, one_byte, in_range, sort_of, well_of};
 
 // What an event is: a block that reads well, or one of the two faults.
-#[derive(Drop)]
+#[derive(Clone, Copy)]
 pub enum Event {
     I { number: u8, more: bool },
     R { number: u8 },

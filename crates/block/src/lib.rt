@@ -1,4 +1,6 @@
 // The block codec of T=1: the check and the reader. What is built is in specs/Builder, and the code in the crate `builder`.
+#![tactic(auto)]
+
 mod check;
 mod event;
 mod reader;

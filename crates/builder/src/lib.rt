@@ -1,4 +1,6 @@
 // The builder of the block codec.
+#![tactic(auto)]
+
 mod builder;
 mod check;
 

@@ -1,5 +1,7 @@
 // A slot's entry in the table: its numbers, read from bytes and written as bytes. Which number stands where is in
 // docs/LAYOUT.md and specs/Layout.
+#![tactic(auto)]
+
 pub mod layout;
 mod reading;
 mod writing;

@@ -1,4 +1,6 @@
 // A slot that is greeting: attach, and what is received until the slot is ready. And what any call gives that sends nothing.
+#![tactic(auto)]
+
 mod greeting;
 mod outcome;
 

@@ -1,5 +1,7 @@
 // A slot's numbers, by value: its parts, and when they fit what calls can leave. What they show of the paper's
 // session is in specs/View, and the block to send in specs/Blocks.
+#![tactic(auto)]
+
 mod fit;
 mod parts;
 

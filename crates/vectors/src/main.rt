@@ -1,5 +1,7 @@
 // Document 01's bytes to test with, a pool at work, a list of ATRs, and sessions, run: prints what the product reads, builds,
 // keeps and answers. `stdout` beside src/ holds what it must print, worked out apart from the product (docs/VECTORS.md).
+#![tactic(auto)]
+
 mod cards;
 mod cells;
 mod codec;

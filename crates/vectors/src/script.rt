@@ -6,7 +6,7 @@ use super::sessions::Step;
 use slot::Slot;
 
 // The slot, and the figure for the calls since the last name.
-#[derive(Drop)]
+#[derive(Clone, Copy)]
 struct Seat {
     slot: Slot,
     figure: u16,

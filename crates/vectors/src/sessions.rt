@@ -4,7 +4,7 @@ use atr::Answer;
 use slot::{Line, Next, Send, Slot};
 
 // What a call answers: its number, the length of the response that it wrote to the output, and what comes next.
-#[derive(Drop)]
+#[derive(Clone, Copy)]
 pub(crate) struct Step {
     pub(crate) number: u8,
     pub(crate) length: usize,
