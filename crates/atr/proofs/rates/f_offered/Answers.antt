@@ -1,0 +1,12 @@
+use borrow.Author.Rules.{rules}
+use borrow.Author.Tests.{le-ltb, lt-ltb}
+use Rattle.atr.specs.Rates.{f_offered}
+use Rattle.atr.proofs.rates.f_offered.Goals as goal
+
+pub returns-then-ta1-ge-ABSENT : goal.returns-then-ta1-ge-ABSENT
+unfolding f_offered
+returns-then-ta1-ge-ABSENT c = simp (le-ltb _ _ c.if-ta1-ge-ABSENT.true)
+
+pub returns : goal.returns
+unfolding f_offered
+returns c = simp (lt-ltb _ _ c.if-ta1-ge-ABSENT.false)

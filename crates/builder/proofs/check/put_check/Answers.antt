@@ -1,0 +1,15 @@
+use mathlib.Core.Path.{ap, ◌∙◌}
+use mathlib.Core.List.{[], ◌∷◌}
+use Prim.Native.Nat.{ℕ}
+use Rattle.lent.specs.Place.{splice}
+use Rattle.block.specs.Lrc.{lrc_of}
+use Rattle.block.specs.Check.{check_of}
+use borrow.Author.Rules.{rules}
+use Rattle.builder.proofs.check.put_check.Goals as goal
+
+pub returns : goal.returns
+unfolding check_of
+returns c = let l = c in
+    let a = l.before.before.before.before.args in
+    c.put8.ensures.t_after
+    ∙ ap (λ (x : ℕ). splice a.out.now a.n (x ∷ [])) (l.lrc.ensures ∙ ap lrc_of l.before.part.ensures)

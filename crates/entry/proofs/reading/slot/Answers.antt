@@ -1,0 +1,46 @@
+use borrow.Author.Rules.{rules}
+use Rattle.entry.specs.Entry.{slot_in}
+use mathlib.Core.Path.{sym, ap, ap₂, ◌∙◌}
+use borrow.Author.Tests.{ne_eqb}
+use Rattle.slot.specs.declared.parts.Slot.TheVariants.{Greeting, Ready, Busy, Done}
+use Rattle.entry.proofs.EntryLaws.{is_greeting, is_ready, is_busy, is_done, is_ended}
+use Rattle.entry.proofs.reading.slot.Goals as goal
+
+pub returns-then-state-eq1 : goal.returns-then-state-eq1
+returns-then-state-eq1 c =
+    let g = c in
+    ap₂ Greeting c.line.ensures c.sent.ensures ∙ sym (is_greeting g.before.before.args.w.now (sym g.get8.ensures ∙ c.if-state-eq1.true))
+
+pub returns-then-state-eq2 : goal.returns-then-state-eq2
+returns-then-state-eq2 c =
+    let g = c in
+    ap Ready c.line-then-state-eq2.ensures ∙ sym (is_ready g.before.before.args.w.now (sym g.get8.ensures ∙ c.if-state-eq2.true))
+
+pub returns-then-state-eq3 : goal.returns-then-state-eq3
+returns-then-state-eq3 c =
+    let g = c in
+    ap Busy c.talk.ensures ∙ sym (is_busy g.before.before.args.w.now (sym g.get8.ensures ∙ c.if-state-eq3.true))
+
+pub returns-then-state-eq4 : goal.returns-then-state-eq4
+returns-then-state-eq4 c =
+    let g = c in
+    ap Done c.line-then-state-eq4.ensures ∙ sym (is_done g.before.before.args.w.now (sym g.get8.ensures ∙ c.if-state-eq4.true))
+
+pub returns-then-state-eq5 : goal.returns-then-state-eq5
+returns-then-state-eq5 c =
+    let g = c in
+    sym (is_ended g.before.before.args.w.now (sym g.get8.ensures ∙ c.if-state-eq5.true))
+
+pub returns : goal.returns
+unfolding slot_in
+returns c =
+    let g = c in
+    let state = g.get8.result in
+    sym (rw (
+      ← g.get8.ensures,
+      ne_eqb state 1 c.if-state-eq1.false,
+      ne_eqb state 2 c.if-state-eq2.false,
+      ne_eqb state 3 c.if-state-eq3.false,
+      ne_eqb state 4 c.if-state-eq4.false,
+      ne_eqb state 5 c.if-state-eq5.false,
+    ))

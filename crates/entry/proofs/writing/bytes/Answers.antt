@@ -1,0 +1,28 @@
+use borrow.Author.Rules.{rules}
+use Rattle.entry.specs.Entry.{slot_bytes}
+use mathlib.Core.Path.{sym, ◌∙◌}
+use Rattle.entry.proofs.writing.bytes.Goals as goal
+
+pub returns-in-Empty : goal.returns-in-Empty
+unfolding slot_bytes
+returns-in-Empty c = sym (rw c.enum_told-1.given.1)
+
+pub returns-in-Greeting : goal.returns-in-Greeting
+unfolding slot_bytes
+returns-in-Greeting c = c.plain.ensures ∙ sym (rw c.x-1.given.1)
+
+pub returns-in-Ready : goal.returns-in-Ready
+unfolding slot_bytes
+returns-in-Ready c = c.plain-in-Ready.ensures ∙ sym (rw c.x-in-Ready-1.given.1)
+
+pub returns-in-Busy : goal.returns-in-Busy
+unfolding slot_bytes
+returns-in-Busy c = c.talking.ensures ∙ sym (rw c.x-in-Busy-1.given.1)
+
+pub returns-in-Done : goal.returns-in-Done
+unfolding slot_bytes
+returns-in-Done c = c.plain-in-Done.ensures ∙ sym (rw c.x-in-Done-1.given.1)
+
+pub returns-in-Ended : goal.returns-in-Ended
+unfolding slot_bytes
+returns-in-Ended c = sym (rw c.enum_told-in-Ended-1.given.1)

@@ -1,0 +1,16 @@
+use borrow.Author.Rules.{rules}
+use Rattle.entry.specs.Entry.{last_bytes}
+use mathlib.Core.Path.{sym}
+use Rattle.entry.proofs.writing.last.Goals as goal
+
+pub returns-in-I : goal.returns-in-I
+unfolding last_bytes
+returns-in-I c = sym (rw c.enum_told-1.given.1)
+
+pub returns-in-R : goal.returns-in-R
+unfolding last_bytes
+returns-in-R c = sym (rw c.l-1.given.1)
+
+pub returns-in-S : goal.returns-in-S
+unfolding last_bytes
+returns-in-S c = sym (rw c.l-in-S-1.given.1)

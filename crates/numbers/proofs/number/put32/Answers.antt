@@ -1,0 +1,19 @@
+use mathlib.Core.Path.{◌≡◌, ap₂, ◌∙◌}
+use mathlib.Core.List.{[], ◌∷◌}
+use Prim.Native.Nat.{ℕ, ◌/◌, ◌%◌}
+use native.Mathlib.Omega.{arith}
+use Rattle.lent.specs.Place.{splice}
+use Rattle.lent.specs.Number.{bytes_of}
+use borrow.Author.Rules.{rules}
+use Rattle.numbers.proofs.number.put32.Goals as goal
+
+pub returns : goal.returns
+unfolding bytes_of
+returns c =
+    let a = c.args in
+    let high : a.v / 16777216 ≡ a.v / 16777216 % 256 = omega arith in
+    let low : a.v % 256 ≡ a.v / 1 % 256 = omega arith in
+    let e = c.put.ensures in record {
+      value = e.0;
+      t_after = e.1 ∙ ap₂ (λ (h l : ℕ). splice a.t.now a.a (h ∷ a.v / 65536 % 256 ∷ a.v / 256 % 256 ∷ l ∷ [])) high low;
+    }

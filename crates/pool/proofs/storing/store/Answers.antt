@@ -1,0 +1,9 @@
+use native.Mathlib.Omega.{arith}
+use lib.ListN.{length-set}
+use borrow.Author.Rules.{rules}
+use Rattle.pool.specs.Calls.{stored}
+use Rattle.pool.proofs.storing.store.Goals as goal
+
+pub returns : goal.returns
+unfolding stored
+returns c = rw (c.put.ensures.t_after, c.wide.ensures.0)

@@ -1,0 +1,37 @@
+use Rattle.call.specs.Call.{collecting, refusal_of}
+use Rattle.table.specs.Layout.{pool_in}
+use Rattle.table.proofs.SoundLaws.{sound_long}
+use Rattle.call.proofs.NoneLaws.{none_sound}
+use Rattle.leaving.specs.Leave.{collected_in}
+use Rattle.pool.specs.Calls.{response}
+use mathlib.Core.Path.{◌∙◌, ◌≡◌, refl, sym}
+use borrow.Author.Rules.{rules}
+use lib.ListN.{length}
+use Rattle.call.proofs.AnswerLaws as call
+use Rattle.leaving.proofs.LeaveLaws as left
+use Rattle.rack.proofs.exports.rack_collect.Goals as goal
+
+pub returns-then-number-ne0 : goal.returns-then-number-ne0
+returns-then-number-ne0 c =
+    let a = c.args in
+    let t = a.table.now in
+    let out = a.out.now in
+    let rec = a.rec.now in
+    let f = call.refused t out rec a.slot (collecting t out rec) c.collect-number.result (sym c.collect-number.ensures) c.if-number-ne0.true in
+    (c.refused.ensures.value ∙ f.0, (f.1.0, (f.1.1.0, c.refused.ensures.rec_after ∙ f.1.1.1)))
+
+pub returns : goal.returns
+returns c =
+    let a = c.args in
+    let t = a.table.now in
+    let out = a.out.now in
+    let rec = a.rec.now in
+    let none : refusal_of t a.slot (collecting t out rec) ≡ 0 = sym c.collect-number.ensures ∙ c.if-number-ne0.false in
+    let g = left.collected_long t out rec a.slot (sound_long t (none_sound t a.slot (collecting t out rec) none)) in
+    let f = call.collect_leaves t out rec a.slot (collected_in t a.slot out) (length (response (pool_in t) a.slot)) none refl refl in (
+      f.0,
+      (
+        c.collect.ensures.t_after ∙ sym g.0 ∙ f.1.0,
+        (c.collect.ensures.out_after.0 ∙ sym g.1 ∙ f.1.1.0, c.collect.ensures.out_after.1 ∙ sym g.2 ∙ f.1.1.1),
+      ),
+    )

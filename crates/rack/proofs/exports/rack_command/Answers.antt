@@ -1,0 +1,29 @@
+use Rattle.call.specs.Call.{commanding}
+use Rattle.table.specs.Layout.{entry_in}
+use Rattle.slot.specs.Blocks.{sent_length}
+use Rattle.entry.specs.Entry.{line_in}
+use Rattle.turn.specs.Calls.{commanded}
+use mathlib.Core.Path.{◌∙◌, refl, sym}
+use borrow.Author.Rules.{rules}
+use Rattle.call.proofs.AnswerLaws as call
+use Rattle.rack.proofs.exports.rack_command.Goals as goal
+
+pub returns-then-number-ne0 : goal.returns-then-number-ne0
+returns-then-number-ne0 c =
+    let a = c.args in
+    let t = a.table.now in
+    let out = a.out.now in
+    let rec = a.rec.now in
+    let f = call.refused t out rec a.slot (commanding t out rec a.bytes.now) c.command-number.result (sym c.command-number.ensures) c.if-number-ne0.true in
+    (c.refused.ensures.value ∙ f.0, (f.1.0, (f.1.1.0, c.refused.ensures.rec_after ∙ f.1.1.1)))
+
+pub returns : goal.returns
+returns c =
+    let a = c.args in
+    let t = a.table.now in
+    let out = a.out.now in
+    let rec = a.rec.now in
+    let bs = a.bytes.now in
+    let n = commanded (line_in (entry_in t a.slot)) bs in
+    let f = call.command_leaves t out rec a.slot n (sent_length out n.send bs) bs (sym c.command-number.ensures ∙ c.if-number-ne0.false) refl refl in
+    (f.0, (c.command.ensures.t_after ∙ f.1.0, (c.command.ensures.out_after.0 ∙ f.1.1.0, c.command.ensures.out_after.1 ∙ f.1.1.1)))

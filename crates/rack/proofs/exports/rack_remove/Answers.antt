@@ -1,0 +1,26 @@
+use Rattle.call.specs.Call.{refusal_of, removing}
+use Rattle.table.proofs.SoundLaws.{sound_long}
+use Rattle.call.proofs.NoneLaws.{none_sound}
+use mathlib.Core.Path.{◌∙◌, ◌≡◌, sym}
+use borrow.Author.Rules.{rules}
+use Rattle.call.proofs.AnswerLaws as call
+use Rattle.leaving.proofs.LeaveLaws as left
+use Rattle.rack.proofs.exports.rack_remove.Goals as goal
+
+pub returns-then-number-ne0 : goal.returns-then-number-ne0
+returns-then-number-ne0 c =
+    let a = c.args in
+    let t = a.table.now in
+    let rec = a.rec.now in
+    let f = call.remove-refused t rec a.slot c.remove-number.result (sym c.remove-number.ensures) c.if-number-ne0.true in
+    (c.refused.ensures.value ∙ f.0, (f.1.0, c.refused.ensures.rec_after ∙ f.1.1))
+
+pub returns : goal.returns
+returns c =
+    let a = c.args in
+    let t = a.table.now in
+    let rec = a.rec.now in
+    let none : refusal_of t a.slot (removing t rec) ≡ 0 = sym c.remove-number.ensures ∙ c.if-number-ne0.false in
+    let g = left.removed_long t rec a.slot (sound_long t (none_sound t a.slot (removing t rec) none)) in
+    let f = call.remove_leaves t rec a.slot none in
+    (f.0, (c.remove.ensures.t_after ∙ sym g.0 ∙ f.1.0, c.remove.ensures.rec_after ∙ sym g.1 ∙ f.1.1))

@@ -1,0 +1,64 @@
+use Prim.Native.Nat.{ℕ, ◌+◌, ◌*◌, ◌-◌, ◌≤◌}
+use mathlib.Core.Path.{◌≡◌, refl, sym, ap, ap₂, ◌∙◌}
+use mathlib.Core.Bool.{Bool, true, false, ◌&&◌}
+use mathlib.Core.List.{List}
+use native.Mathlib.Omega.{arith}
+use lib.Dec.{leb}
+use lib.ListN.{get_or}
+use borrow.Author.Tests.{lt-leb, le-leb}
+use borrow.Author.Rules.{rules}
+use Rattle.region.specs.Layout.{holders, cells, ceilings_at, held, pool_in}
+use Rattle.shares.specs.Pool.{lack, free, sound}
+use Rattle.lent.specs.Fold.{all, sum}
+use Rattle.lent.proofs.FoldLaws.{all_next, all_fails, sum_next, all_end, sum_end}
+use Rattle.region.proofs.LimitLaws.{share_at, ceiling_at}
+use Rattle.sound.proofs.sound.are_holdings.Goals as goal
+
+abbrev under : List ℕ → ℕ → Bool
+under r j = leb (held r j) ((pool_in r).ceiling j)
+
+-- at the loop's end all holders have been looked at
+whole : (r : List ℕ) (total lacking j : ℕ) → j ≡ holders → all j (under r) ≡ true → total ≡ sum j (held r) → lacking ≡ sum j (lack (pool_in r) (held r))
+    → (all holders (under r) ≡ true) × (total ≡ sum holders (held r)) × (lacking ≡ sum holders (lack (pool_in r) (held r)))
+whole r total lacking j e a b d = (
+  all_end (under r) j holders e a,
+  sum_end (held r) j holders total e b,
+  sum_end (lack (pool_in r) (held r)) j holders lacking e d,
+)
+
+pub loop-j-init : goal.loop-j-init
+unfolding all sum
+loop-j-init c = (omega arith, omega arith, omega arith, refl, refl, refl)
+
+pub returns-then-r-j : goal.returns-then-r-j
+unfolding sound
+returns-then-r-j c =
+    let r = c.args.r.now in
+    let l = c.loop-j in
+    let e : under r l.j ≡ false = rw (ceiling_at r l.j (omega arith)) (lt-leb (held r l.j) (get_or r (ceilings_at + l.j) 0) (omega arith)) in
+    sym (ap (λ (b : Bool). b && (leb (sum holders (held r)) cells && leb (sum holders (lack (pool_in r) (held r))) (free (pool_in r) (held r)))) (all_fails (under r) holders l.j (omega arith) e))
+
+pub loop-j-preserved : goal.loop-j-preserved
+loop-j-preserved c =
+    let r = c.args.r.now in
+    let l = c.loop-j in
+    let e : under r l.j ≡ true = rw (ceiling_at r l.j (omega arith)) (le-leb (held r l.j) (get_or r (ceilings_at + l.j) 0) (omega arith)) in (
+      omega arith,
+      omega arith,
+      omega arith,
+      all_next (under r) l.j ∙ rw (l.invariant.3, e),
+      ap₂ ◌+◌ l.invariant.4 c.wide-total.ensures.0 ∙ sym (sum_next (held r) l.j),
+      ap₂ ◌+◌ l.invariant.5 (c.lack.ensures.0 ∙ ap (λ (s : ℕ). s - held r l.j) (sym (share_at r l.j (omega arith)))) ∙ sym (sum_next (lack (pool_in r) (held r)) l.j),
+    )
+
+pub returns-then-total-gt-CELLS : goal.returns-then-total-gt-CELLS
+unfolding sound
+returns-then-total-gt-CELLS c =
+    let w = whole c.args.r.now c.loop-j.total c.loop-j.lacking c.loop-j.j (omega arith) c.loop-j.invariant.3 c.loop-j.invariant.4 c.loop-j.invariant.5 in
+    sym (simp (w.0, lt-leb (sum holders (held c.args.r.now)) cells (omega (arith, w.1))))
+
+pub returns : goal.returns
+unfolding sound
+returns c =
+    let w = whole c.args.r.now c.loop-j.total c.loop-j.lacking c.loop-j.j (omega arith) c.loop-j.invariant.3 c.loop-j.invariant.4 c.loop-j.invariant.5 in
+    rw (w.1, w.2) (sym (simp (w.0, le-leb (sum holders (held c.args.r.now)) cells (omega (arith, w.1)))))
