@@ -14,6 +14,6 @@ returns c =
     let high : a.v / 256 ≡ a.v / 256 % 256 = omega arith in
     let low : a.v % 256 ≡ a.v / 1 % 256 = omega arith in
     let e = c.put.ensures in record {
-      value = e.0;
-      t_after = e.1 ∙ ap₂ (λ (h l : ℕ). splice a.t.now a.a (h ∷ l ∷ [])) high low;
+      value = e.value;
+      t_after = e.t_after ∙ ap₂ (λ (h l : ℕ). splice a.t.now a.a (h ∷ l ∷ [])) high low;
     }
