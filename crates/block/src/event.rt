@@ -16,6 +16,7 @@ pub enum Event {
 }
 
 // The block that a PCB names, v being the first byte of its INF: 14 codes, and the other 242 name none.
+#[tactic(auto, unfolding(crate::specs::Event::named_of))]
 fn named(pcb: u8, v: u8) -> Event
     ensures { result ≡ named_of pcb v }
 {
@@ -87,6 +88,7 @@ fn in_range(e: Event, inf: &[u8]) -> bool
 }
 
 // PCB and LEN: the block that the PCB names, if LEN and INF are as it asks.
+#[tactic(auto, unfolding(crate::specs::Event::sort_of))]
 pub(crate) fn sort(pcb: u8, inf: &[u8]) -> Event
     ensures { result ≡ sort_of pcb inf.now }
 {

@@ -45,6 +45,7 @@ fn in_order(right: bool, ours: bool, e: Event) -> Event
 }
 
 // Bytes with good parity.
+#[tactic(auto, unfolding(crate::specs::Reader::bytes_of))]
 fn read_bytes(s: &[u8]) -> Event
     ensures { result ≡ bytes_of s.now }
 {
@@ -57,6 +58,7 @@ fn read_bytes(s: &[u8]) -> Event
 }
 
 // An event: kind 0 is bytes with good parity, 1 a parity fault, 2 silence. A kind above 2 reads as silence.
+#[tactic(auto, unfolding(crate::specs::Reader::read_of))]
 pub fn read(kind: u64, s: &[u8]) -> Event
     ensures { result ≡ read_of kind s.now }
 {
