@@ -5,7 +5,7 @@ use Rattle.region.proofs.HolderLaws.{inside_facts}
 use Rattle.pool.proofs.freeing.release.Goals as goal
 
 pub free_all-requires : goal.free_all-requires
-free_all-requires c κs = let a = c.args in inside_facts a.r.now a.i (sym c.is_holder.ensures ∙ c.if-is_holder.true)
+free_all-requires c = let a = c.args in inside_facts a.r.now a.i (sym c.is_holder.ensures ∙ c.if-is_holder.true)
 
 pub returns-then-is_holder : goal.returns-then-is_holder
 unfolding released

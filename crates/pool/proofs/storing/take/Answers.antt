@@ -9,10 +9,10 @@ use Rattle.region.proofs.HolderLaws.{granted_facts, granted-low}
 use Rattle.pool.proofs.storing.take.Goals as goal
 
 pub lowest_free-c-requires : goal.lowest_free-c-requires
-lowest_free-c-requires c κs = (granted_facts c.args.r.now c.args.i (sym c.granted.ensures ∙ c.if-granted.true)).long
+lowest_free-c-requires c = (granted_facts c.args.r.now c.args.i (sym c.granted.ensures ∙ c.if-granted.true)).long
 
 pub store-requires : goal.store-requires
-store-requires c κs =
+store-requires c =
     let a = c.args in
     let g = granted_facts a.r.now a.i (sym c.granted.ensures ∙ c.if-granted.true) in
     let low =

@@ -5,7 +5,7 @@ use Rattle.region.proofs.HolderLaws.{inside_facts}
 use Rattle.region.proofs.holding.granted.Goals as goal
 
 pub rule_grants-requires : goal.rule_grants-requires
-rule_grants-requires c κs = let f = inside_facts c.args.r.now c.args.i (sym c.is_holder.ensures ∙ c.if-is_holder.true) in (f.0, f.1)
+rule_grants-requires c = let f = inside_facts c.args.r.now c.args.i (sym c.is_holder.ensures ∙ c.if-is_holder.true) in (f.0, f.1)
 
 pub returns-then-is_holder : goal.returns-then-is_holder
 unfolding granted

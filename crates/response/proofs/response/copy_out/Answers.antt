@@ -17,10 +17,10 @@ fits : (out xs ys : List ℕ) → xs ≡ ys → within out 0 (length xs) ≡ wit
 fits out xs ys e = ap (λ (l : List ℕ). within out 0 (length l)) e
 
 pub length_in_all-requires : goal.length_in_all-requires
-length_in_all-requires c κs = let a = c.args in inside_facts a.r.now a.i (sym c.is_holder.ensures ∙ c.if-is_holder.true)
+length_in_all-requires c = let a = c.args in inside_facts a.r.now a.i (sym c.is_holder.ensures ∙ c.if-is_holder.true)
 
 pub join_into-requires : goal.join_into-requires
-join_into-requires c κs =
+join_into-requires c =
     let a = c.args in
     let f = inside_facts a.r.now a.i (sym c.is_holder.ensures ∙ c.if-is_holder.true) in
     (f.0, f.1, omega (arith, c.length_in_all.ensures, c.if-length_in_all-out.true))

@@ -15,14 +15,14 @@ unfolding talk_fits
 returns-then-t-2 c = let k = c.args.t.cut in sym (rw (sym c.is_in_range.ensures ∙ c.if-is_in_range.true, c.if-t.true, lt-ltb (k.from + k.len) k.whole c.if-t-2.true))
 
 pub are_steps_fit-requires : goal.are_steps_fit-requires
-are_steps_fit-requires c κs = in_range_lem c.args.t (sym c.is_in_range.ensures ∙ c.if-is_in_range.true)
+are_steps_fit-requires c = in_range_lem c.args.t (sym c.is_in_range.ensures ∙ c.if-is_in_range.true)
 
 pub returns-then-t : goal.returns-then-t
 unfolding talk_fits
 returns-then-t c = let k = c.args.t.cut in c.are_steps_fit.ensures ∙ sym (rw (sym c.is_in_range.ensures ∙ c.if-is_in_range.true, c.if-t.true, le-ltb (k.from + k.len) k.whole c.if-t-2.false))
 
 pub are_steps_fit-requires-then-is_in_range : goal.are_steps_fit-requires-then-is_in_range
-are_steps_fit-requires-then-is_in_range c κs = in_range_lem c.args.t (sym c.is_in_range.ensures ∙ c.if-is_in_range.true)
+are_steps_fit-requires-then-is_in_range c = in_range_lem c.args.t (sym c.is_in_range.ensures ∙ c.if-is_in_range.true)
 
 pub returns-then-is_in_range : goal.returns-then-is_in_range
 unfolding talk_fits

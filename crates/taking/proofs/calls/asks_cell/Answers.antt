@@ -5,7 +5,7 @@ use mathlib.Core.Path.{sym, ◌∙◌}
 use Rattle.taking.proofs.calls.asks_cell.Goals as goal
 
 pub is_due_in-requires : goal.is_due_in-requires
-is_due_in-requires c κs = (range_safe c.args.t (sym c.is_in_range.ensures ∙ c.if-is_in_range.true)).cut
+is_due_in-requires c = (range_safe c.args.t (sym c.is_in_range.ensures ∙ c.if-is_in_range.true)).cut
 
 pub returns-then-is_in_range : goal.returns-then-is_in_range
 unfolding asks_cell

@@ -5,7 +5,7 @@ use mathlib.Core.Path.{sym, ◌∙◌}
 use Rattle.taking.proofs.calls.take.Goals as goal
 
 pub take_in-requires : goal.take_in-requires
-take_in-requires c κs = (range_safe c.args.t (sym c.is_in_range.ensures ∙ c.if-is_in_range.true)).numbers
+take_in-requires c = (range_safe c.args.t (sym c.is_in_range.ensures ∙ c.if-is_in_range.true)).numbers
 
 pub returns-then-is_in_range : goal.returns-then-is_in_range
 unfolding taken

@@ -6,7 +6,7 @@ use mathlib.Core.Path.{sym, ◌∙◌}
 use Rattle.turn.proofs.calls.command.Goals as goal
 
 pub start-requires : goal.start-requires
-start-requires c κs = (line_safe _ (sym c.is_line_fit.ensures ∙ c.if-is_line_fit.true), (form_fits c.args.bytes.now (sym c.is_command.ensures ∙ c.if-is_command.true)).most)
+start-requires c = (line_safe _ (sym c.is_line_fit.ensures ∙ c.if-is_line_fit.true), (form_fits c.args.bytes.now (sym c.is_command.ensures ∙ c.if-is_command.true)).most)
 
 pub returns-then-is_command : goal.returns-then-is_command
 unfolding commanded

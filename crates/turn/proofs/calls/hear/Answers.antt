@@ -5,7 +5,7 @@ use mathlib.Core.Path.{sym, ◌∙◌}
 use Rattle.turn.proofs.calls.hear.Goals as goal
 
 pub busy-requires : goal.busy-requires
-busy-requires c κs = range_safe c.args.t (sym c.is_in_range.ensures ∙ c.if-is_in_range.true)
+busy-requires c = range_safe c.args.t (sym c.is_in_range.ensures ∙ c.if-is_in_range.true)
 
 pub returns-then-is_in_range : goal.returns-then-is_in_range
 unfolding heard
