@@ -14,12 +14,12 @@ returns-then-table-lt-TABLE c = sym (rw (lt-ltb c.args.table table_size c.if-tab
 
 pub returns-then-not-acceptable : goal.returns-then-not-acceptable
 unfolding open_refusal
-returns-then-not-acceptable c = let a = c.args in let f : fit (pool_of a.shares.now a.ceilings.now) ≡ false = sym c.acceptable.ensures ∙ not-true _ c.if-not-acceptable.true in sym (rw (le-ltb a.table table_size c.if-table-lt-TABLE.false, f))
+returns-then-not-acceptable c = let a = c.args in let f : fit (pool_of a.shares.now a.ceilings.now) ≡ false = sym c.acceptable.ensures ∙ c.if-not-acceptable.true in sym (rw (le-ltb a.table table_size c.if-table-lt-TABLE.false, f))
 
 pub returns-then-rec-ge-RECORD : goal.returns-then-rec-ge-RECORD
 unfolding open_refusal
-returns-then-rec-ge-RECORD c = let a = c.args in let f : fit (pool_of a.shares.now a.ceilings.now) ≡ true = sym c.acceptable.ensures ∙ not-false _ c.if-not-acceptable.false in sym (rw (le-ltb a.table table_size c.if-table-lt-TABLE.false, f, le-ltb a.rec 64 c.if-rec-ge-RECORD.true))
+returns-then-rec-ge-RECORD c = let a = c.args in let f : fit (pool_of a.shares.now a.ceilings.now) ≡ true = sym c.acceptable.ensures ∙ c.if-not-acceptable.false in sym (rw (le-ltb a.table table_size c.if-table-lt-TABLE.false, f, le-ltb a.rec 64 c.if-rec-ge-RECORD.true))
 
 pub returns : goal.returns
 unfolding open_refusal
-returns c = let a = c.args in let f : fit (pool_of a.shares.now a.ceilings.now) ≡ true = sym c.acceptable.ensures ∙ not-false _ c.if-not-acceptable.false in sym (rw (le-ltb a.table table_size c.if-table-lt-TABLE.false, f, lt-ltb a.rec 64 c.if-rec-ge-RECORD.false))
+returns c = let a = c.args in let f : fit (pool_of a.shares.now a.ceilings.now) ≡ true = sym c.acceptable.ensures ∙ c.if-not-acceptable.false in sym (rw (le-ltb a.table table_size c.if-table-lt-TABLE.false, f, lt-ltb a.rec 64 c.if-rec-ge-RECORD.false))

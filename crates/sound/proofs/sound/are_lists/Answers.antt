@@ -17,12 +17,12 @@ pub returns-then-not-is_list : goal.returns-then-not-is_list
 returns-then-not-is_list c =
     let f = list_well c.args.r.now in
     let l = c.loop-i in
-    let e : f l.i ≡ false = sym c.is_list.ensures ∙ not-true _ c.if-not-is_list.true in
+    let e : f l.i ≡ false = sym c.is_list.ensures ∙ c.if-not-is_list.true in
     sym (all_fails f holders l.i (omega arith) e)
 
 pub loop-i-preserved : goal.loop-i-preserved
 loop-i-preserved c =
     let f = list_well c.args.r.now in
     let l = c.loop-i in
-    let e : f l.i ≡ true = sym c.is_list.ensures ∙ not-false _ c.if-not-is_list.false in
+    let e : f l.i ≡ true = sym c.is_list.ensures ∙ c.if-not-is_list.false in
     (omega arith, all_next f l.i ∙ rw (l.invariant.1, e))

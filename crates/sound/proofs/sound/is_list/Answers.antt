@@ -20,7 +20,7 @@ returns-then-not-is_listed c =
     let a = c.args in
     let l = c.loop-k in
     let f = listed_well a.r.now a.i in
-    let e : f l.k ≡ false = sym c.is_listed.ensures ∙ not-true _ c.if-not-is_listed.true in
+    let e : f l.k ≡ false = sym c.is_listed.ensures ∙ c.if-not-is_listed.true in
     sym (all_fails f (held a.r.now a.i) l.k (omega arith) e)
 
 pub loop-k-preserved : goal.loop-k-preserved
@@ -28,7 +28,7 @@ loop-k-preserved c =
     let a = c.args in
     let l = c.loop-k in
     let f = listed_well a.r.now a.i in
-    let e : f l.k ≡ true = sym c.is_listed.ensures ∙ not-false _ c.if-not-is_listed.false in
+    let e : f l.k ≡ true = sym c.is_listed.ensures ∙ c.if-not-is_listed.false in
     (omega arith, omega arith, omega arith, all_next f l.k ∙ rw (l.invariant.3, e))
 
 pub returns : goal.returns
