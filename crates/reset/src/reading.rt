@@ -32,8 +32,8 @@ fn is_check_wrong(s: &[u8], tck: bool) -> bool
 // Reads an ATR: any bytes, of any number. The answer has the paper's number and the paper's values.
 pub fn read(s: &[u8]) -> Answer
     ensures value { result ≡ answer_of s.now }
-    ensures result_value { number_in result ≡ number_of s.now }
-    ensures result_value_2 { report_in result ≡ values_of s.now }
+    ensures number { number_in result ≡ number_of s.now }
+    ensures report { report_in result ≡ values_of s.now }
 {
     if is_start_wrong(s) {
         return Answer::Refused { number: 8 };

@@ -28,9 +28,9 @@ returns-then-out-inf c = let a = c.args in
 
 pub returns : goal.returns
 unfolding built_length built_out
-returns c = let t = c in
-    let e = le-leb _ _ t.before.if1.false in
-    let f = le-leb _ _ t.if2.false in record {
+returns c =
+    let e = le-leb _ _ c.if-inf-gt254.false in
+    let f = le-leb _ _ c.if-out-inf.false in record {
       value = simp (e, f);
       out_after = c.write.ensures ∙ sym (simp (e, f));
     }

@@ -10,11 +10,9 @@ use borrow.Author.Rules.{rules}
 use Rattle.builder.proofs.builder.write.Goals as goal
 
 pub returns : goal.returns
-returns c = let q = c in
-    let p = q.before.before.before.before in
-    let s = p.before.before.before.before.before in
-    let inf = s.args.inf.now in
+returns c =
+    let inf = c.args.inf.now in
     let n = inf_at + length inf in
     c.put_check.ensures
-    ∙ ap (λ (l : List ℕ). splice l n (check_of (window l 0 n))) (q.put2.ensures.1 ∙ ap (λ (l : List ℕ). splice l inf_at inf) p.put.ensures.1)
-    ∙ written s.args.out.now s.args.pcb inf s.requires.1
+    ∙ ap (λ (l : List ℕ). splice l n (check_of (window l 0 n))) (c.put-2.ensures.t_after ∙ ap (λ (l : List ℕ). splice l inf_at inf) c.put.ensures.t_after)
+    ∙ written c.args.out.now c.args.pcb inf c.requires.1

@@ -9,7 +9,7 @@ use Rattle.builder.proofs.check.put_check.Goals as goal
 
 pub returns : goal.returns
 unfolding check_of
-returns c = let l = c in
-    let a = l.before.before.before.before.args in
+returns c =
+    let a = c.args in
     c.put8.ensures.t_after
-    ∙ ap (λ (x : ℕ). splice a.out.now a.n (x ∷ [])) (l.lrc.ensures ∙ ap lrc_of l.before.part.ensures)
+    ∙ ap (λ (x : ℕ). splice a.out.now a.n (x ∷ [])) (c.lrc-x.ensures ∙ ap lrc_of c.part.ensures)

@@ -22,7 +22,7 @@ loop-k-preserved c =
     let e = c.free_one.ensures.r_after in
     let low : listed l.r a.i l.k < 256 = c.free_one.ensures.k_bound in (
       omega arith,
-      c.free_one.auto.0 ∙ l.invariant.1,
+      c.free_one.auto.r ∙ l.invariant.1,
       omega arith,
       omega arith,
       e ∙ rw add-one (ap₂ (λ (t : List ℕ) (c : ℕ). set t (owners_at + c) unowned) l.invariant.4 (l.invariant.5 l.k)),

@@ -21,7 +21,7 @@ loop-i-preserved c =
     let left : suc (a.n - (l.i + 1)) ≡ a.n - l.i = omega arith in (
       omega arith,
       omega (arith, c.count-at.ensures.upper_bound),
-      next_group a.s.now l.at l.td g.result c.count-at.result g.ensures.0 c.count-at.ensures.value (a.n - (l.i + 1)) _ refl
+      next_group a.s.now l.at l.td g.result c.count-at.result g.ensures.value c.count-at.ensures.value (a.n - (l.i + 1)) _ refl
           ∙ ap (λ (k : ℕ). behind k (walk_from a.s.now l.at l.td).groups) left
           ∙ l.invariant.2,
     )

@@ -8,13 +8,6 @@ use borrow.Author.Rules.{rules}
 use Rattle.atr.proofs.WalkLaws.{Moved, moved, over_size, over_other}
 use Rattle.reset.proofs.walk.to_end.Goals as goal
 
--- a turn passes one group
-step : (c : tie.After-count invariant-loop decreases-loop)
-    → Moved c.before.before.before.before.before.before.args.s.now c.before.before.before.loop.at c.before.before.before.loop.td c.before.group_at.result c.count.result
-step c =
-    let l = c.before.before.before.loop in
-    moved c.before.before.before.before.before.before.args.s.now l.at l.td c.before.group_at.result c.count.result c.before.group_at.ensures.0 c.count.ensures.0 (omega arith)
-
 pub loop-td-init : goal.loop-td-init
 unfolding walk_of
 loop-td-init c =
@@ -26,17 +19,24 @@ loop-td-init c =
     )
 
 pub loop-td-smaller : goal.loop-td-smaller
-loop-td-smaller c = omega (arith, step c)
+-- a turn passes one group
+loop-td-smaller c =
+    let l = c.loop-td in
+    let s = c.args.s.now in
+    let m : Moved s l.at l.td c.group_at-g.result c.count-at.result =
+    moved s l.at l.td c.group_at-g.result c.count-at.result c.group_at-g.ensures.value c.count-at.ensures.value (omega arith) in
+    omega (arith, m)
 
 pub loop-td-preserved : goal.loop-td-preserved
 loop-td-preserved c =
     let l = c.loop-td in
-    let g = c.group_at-g in
-    let m = step c in
     let s = c.args.s.now in
+    let m : Moved s l.at l.td c.group_at-g.result c.count-at.result =
+    moved s l.at l.td c.group_at-g.result c.count-at.result c.group_at-g.ensures.value c.count-at.ensures.value (omega arith) in
+    let g = c.group_at-g in
     let rest = some_other (walk_from s (l.at + c.count-at.result) g.result.td).groups in (
       omega (arith, m.within),
-      g.ensures.1,
+      g.ensures.td_bound,
       omega (arith, m.size, l.invariant.2),
       ap (λ (t : Bool). t || rest) c.names_other-tck.ensures
           ∙ or_assoc l.tck (other_than0 g.result.td) rest
