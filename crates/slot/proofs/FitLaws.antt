@@ -7,9 +7,9 @@ use native.Mathlib.Omega.{arith}
 use lib.Dec.{ltb, leb, eqb}
 use lib.ListN.{length, take, drop, length-drop, take-append-drop, drop_of_length-le}
 use lib.Seq.{drop-drop}
-use borrow.Author.Tests.{leb-true, le-leb, ltb-false, lt-ltb, le-ltb, eqb-true, eq-eqb, not-true}
+use borrow.Author.Tests.{leb-true, le-leb, ltb-false, le-ltb, eqb-true, eq-eqb, not-true}
 use Rattle.lent.specs.Place.{window}
-use Rattle.lent.proofs.Cases.{cond_case, and_left, and_right, and_true, le_or_lt}
+use Rattle.lent.proofs.Cases.{cond_case, and_left, and_right, and_true}
 use Rattle.lent.proofs.PlaceLaws.{length-window}
 use Rattle.block.specs.Event.{between}
 use Rattle.session.specs.Slot.{Block, i_block, r_block, ifs_request, s_response, state_no, got_in}

@@ -11,8 +11,11 @@ use Rattle.hearing.proofs.event.Goals as goal
 pub returns-then-t-lt-TABLE : goal.returns-then-t-lt-TABLE
 returns-then-t-lt-TABLE c =
     let a = c.args in
-    let f = left_short a.t.now a.out.now a.rec.now a.i a.kind a.bytes.now c.if-t-lt-TABLE.true in
-    (f.0, (f.1, f.2))
+    let f = left_short a.t.now a.out.now a.rec.now a.i a.kind a.bytes.now c.if-t-lt-TABLE.true in record {
+      t_after = f.0;
+      out_after = f.1;
+      rec_after = f.2;
+    }
 
 pub returns-then-get8-eq1 : goal.returns-then-get8-eq1
 returns-then-get8-eq1 c =
@@ -20,8 +23,11 @@ returns-then-get8-eq1 c =
     let t = a.t.now in
     let e : eqb (state_in (entry_in t a.i)) 1 ≡ true =
     eq-eqb _ 1 (ap state_in (sym c.entry.ensures) ∙ sym c.get8.ensures ∙ c.if-get8-eq1.true) in
-    let f = left_greeting t a.out.now a.rec.now a.i a.kind a.bytes.now c.if-t-lt-TABLE.false e in
-    (c.greet.ensures.t_after ∙ f.0, (c.greet.ensures.out_after.0 ∙ f.1, c.greet.ensures.out_after.1 ∙ f.2))
+    let f = left_greeting t a.out.now a.rec.now a.i a.kind a.bytes.now c.if-t-lt-TABLE.false e in record {
+      t_after = c.greet.ensures.t_after ∙ f.0;
+      out_after = c.greet.ensures.out_after ∙ f.1;
+      rec_after = c.greet.ensures.rec_after ∙ f.2;
+    }
 
 pub returns : goal.returns
 returns c =
@@ -29,5 +35,8 @@ returns c =
     let t = a.t.now in
     let e : eqb (state_in (entry_in t a.i)) 1 ≡ false =
     ne_eqb _ 1 (λ z. c.if-get8-eq1.false (c.get8.ensures ∙ ap state_in c.entry.ensures ∙ z)) in
-    let f = left_busy t a.out.now a.rec.now a.i a.kind a.bytes.now c.if-t-lt-TABLE.false e in
-    (c.hear.ensures.t_after ∙ f.0, (c.hear.ensures.out_after.0 ∙ f.1, c.hear.ensures.out_after.1 ∙ f.2))
+    let f = left_busy t a.out.now a.rec.now a.i a.kind a.bytes.now c.if-t-lt-TABLE.false e in record {
+      t_after = c.hear.ensures.t_after ∙ f.0;
+      out_after = c.hear.ensures.out_after ∙ f.1;
+      rec_after = c.hear.ensures.rec_after ∙ f.2;
+    }

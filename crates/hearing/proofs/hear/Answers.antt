@@ -24,11 +24,12 @@ returns c =
     let k : c.talk-talk.result ≡ talk_in (entry_in t a.i) = c.talk-talk.ensures ∙ ap talk_in c.entry.ensures in
     let n : c.event-n.result ≡ heard_in t a.i a.kind a.bytes.now = c.event-n.ensures.value ∙ ap (λ (q : Talk). event_of (pool_in t) a.i q a.kind a.bytes.now) k in
     let p = c.event-n.ensures.r_after ∙ ap (λ (q : Talk). pool_of (pool_in t) a.i q a.kind a.bytes.now) k in
-    let v : put_mid pool_at size t c.event-n.new.0 ≡ heard_pool t a.i a.kind a.bytes.now = pool_back t c.event-n.new.0 c.requires c.event-n.auto.0 ∙ ap (with_pool t) p in
-    let f = finish_ap (heard_pool t a.i a.kind a.bytes.now) a.out.now a.rec.now a.i n c.none.ensures in (
-      c.finish.ensures.t_after ∙ ap (λ (u : List ℕ). with_slot u a.i c.event-n.result.slot) v ∙ f.0,
-      (
-        c.finish.ensures.out_after.0 ∙ ap (λ (u : List ℕ). sent_out a.out.now c.event-n.result.send (command_in u a.i)) v ∙ f.1,
-        c.finish.ensures.out_after.1 ∙ ap (λ (u : List ℕ). told_of a.rec.now c.event-n.result (sent_length a.out.now c.event-n.result.send (command_in u a.i)) c.none.result) v ∙ f.2,
-      ),
-    )
+    let v : put_mid pool_at size t c.event-n.new.r ≡ heard_pool t a.i a.kind a.bytes.now = pool_back t c.event-n.new.r c.requires c.event-n.auto.r ∙ ap (with_pool t) p in
+    let f = finish_ap (heard_pool t a.i a.kind a.bytes.now) a.out.now a.rec.now a.i n c.none.ensures in record {
+      t_after = c.finish.ensures.t_after ∙ ap (λ (u : List ℕ). with_slot u a.i c.event-n.result.slot) v ∙ f.0;
+      out_after = c.finish.ensures.out_after ∙ ap (λ (u : List ℕ). sent_out a.out.now c.event-n.result.send (command_in u a.i)) v ∙ f.1;
+      rec_after =
+        c.finish.ensures.rec_after
+        ∙ ap (λ (u : List ℕ). told_of a.rec.now c.event-n.result (sent_length a.out.now c.event-n.result.send (command_in u a.i)) c.none.result) v
+        ∙ f.2;
+    }

@@ -22,8 +22,11 @@ use Rattle.leaving.proofs.collect.Goals as goal
 pub returns-then-t-lt-TABLE : goal.returns-then-t-lt-TABLE
 returns-then-t-lt-TABLE c =
     let a = c.args in
-    let f = collected-short a.t.now a.out.now a.rec.now a.i c.if-t-lt-TABLE.true in
-    (f.0, (f.1, f.2))
+    let f = collected-short a.t.now a.out.now a.rec.now a.i c.if-t-lt-TABLE.true in record {
+      t_after = f.0;
+      out_after = f.1;
+      rec_after = f.2;
+    }
 
 pub returns : goal.returns
 unfolding pool_in window
@@ -35,10 +38,8 @@ returns c =
     let n : c.collect-n.result ≡ collected_in t a.i out =
     c.collect-n.ensures.value ∙ ap (λ (l : Line). collected (pool_in t) a.i l out) (c.line-line.ensures ∙ ap line_in c.entry.ensures) in
     let w = c.response_length-written.ensures ∙ ap (λ (r : List ℕ). length (response r a.i)) c.pool.ensures in
-    let v = pool_back t c.collect-n.new.0 c.if-t-lt-TABLE.false c.collect-n.auto.0 ∙ ap (with_pool t) c.collect-n.ensures.r_after.0 in (
-      c.leave.ensures.t_after ∙ ap₂ (λ (u : List ℕ) (m : Next). with_slot u a.i m.slot) v n ∙ f.0,
-      (
-        c.collect-n.ensures.r_after.1 ∙ f.1,
-        c.leave.ensures.rec_after ∙ ap₂ (λ (m : Next) (j : ℕ). told_of a.rec.now m j zeros) n w ∙ f.2,
-      ),
-    )
+    let v = pool_back t c.collect-n.new.r c.if-t-lt-TABLE.false c.collect-n.auto.r ∙ ap (with_pool t) c.collect-n.ensures.r_after in record {
+      t_after = c.leave.ensures.t_after ∙ ap₂ (λ (u : List ℕ) (m : Next). with_slot u a.i m.slot) v n ∙ f.0;
+      out_after = c.collect-n.ensures.out_after ∙ f.1;
+      rec_after = c.leave.ensures.rec_after ∙ ap₂ (λ (m : Next) (j : ℕ). told_of a.rec.now m j zeros) n w ∙ f.2;
+    }

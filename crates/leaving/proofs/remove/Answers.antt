@@ -28,7 +28,7 @@ returns c =
     let t = a.t.now in
     let f = removed_long t a.rec.now a.i c.if-t-lt-TABLE.false in
     let n = c.remove-n.ensures.value in
-    let v = pool_back t c.remove-n.new.0 c.if-t-lt-TABLE.false c.remove-n.auto.0 ∙ ap (with_pool t) c.remove-n.ensures.r_after in record {
+    let v = pool_back t c.remove-n.new.r c.if-t-lt-TABLE.false c.remove-n.auto.r ∙ ap (with_pool t) c.remove-n.ensures.r_after in record {
       t_after = c.leave.ensures.t_after ∙ ap₂ (λ (u : List ℕ) (m : Next). with_slot u a.i m.slot) v n ∙ f.0;
       rec_after = c.leave.ensures.rec_after ∙ ap (λ (m : Next). told_of a.rec.now m 0 zeros) n ∙ f.1;
     }

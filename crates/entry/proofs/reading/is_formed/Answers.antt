@@ -11,19 +11,15 @@ returns-then-get8-gt5 c = sym (rw (← c.get8.ensures, lt-leb c.get8.result 5 c.
 pub returns-then-get8-gt1 : goal.returns-then-get8-gt1
 unfolding formed
 returns-then-get8-gt1 c =
-    let g = c in
-    let h = c in
-    sym (rw (← g.get8.ensures, ← h.get82.ensures, le-leb g.get8.result 5 c.if-get8-gt5.false, lt-leb h.get82.result 1 c.if-get8-gt1.true))
+    sym (rw (← c.get8.ensures, ← c.get8-2.ensures, le-leb c.get8.result 5 c.if-get8-gt5.false, lt-leb c.get8-2.result 1 c.if-get8-gt1.true))
 
 pub returns : goal.returns
 unfolding formed
 returns c =
-    let g = c in
-    let h = c in
     sym (rw (
-      ← g.get8.ensures,
-      ← h.get82.ensures,
+      ← c.get8.ensures,
+      ← c.get8-2.ensures,
       ← c.get8-3.ensures,
-      le-leb g.get8.result 5 c.if-get8-gt5.false,
-      le-leb h.get82.result 1 c.if-get8-gt1.false,
+      le-leb c.get8.result 5 c.if-get8-gt5.false,
+      le-leb c.get8-2.result 1 c.if-get8-gt1.false,
     ))

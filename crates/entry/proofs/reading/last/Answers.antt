@@ -15,10 +15,9 @@ returns-then-kind-eq1 c = sym (rw (← c.get8-kind.ensures, ← c.get8-value.ens
 pub returns : goal.returns
 unfolding last_in
 returns c =
-    let g = c in
-    let kind = g.get8.result in
+    let kind = c.get8-kind.result in
     sym (rw (
-      ← g.get8.ensures,
+      ← c.get8-kind.ensures,
       ← c.get8-value.ensures,
       ← c.get8.ensures,
       ne_eqb kind 0 c.if-kind-eq0.false,

@@ -8,36 +8,30 @@ use Rattle.entry.proofs.reading.slot.Goals as goal
 
 pub returns-then-state-eq1 : goal.returns-then-state-eq1
 returns-then-state-eq1 c =
-    let g = c in
-    ap₂ Greeting c.line.ensures c.sent.ensures ∙ sym (is_greeting g.before.before.args.w.now (sym g.get8.ensures ∙ c.if-state-eq1.true))
+    ap₂ Greeting c.line.ensures c.sent.ensures ∙ sym (is_greeting c.args.w.now (sym c.get8-state.ensures ∙ c.if-state-eq1.true))
 
 pub returns-then-state-eq2 : goal.returns-then-state-eq2
 returns-then-state-eq2 c =
-    let g = c in
-    ap Ready c.line-then-state-eq2.ensures ∙ sym (is_ready g.before.before.args.w.now (sym g.get8.ensures ∙ c.if-state-eq2.true))
+    ap Ready c.line-then-state-eq2.ensures ∙ sym (is_ready c.args.w.now (sym c.get8-state.ensures ∙ c.if-state-eq2.true))
 
 pub returns-then-state-eq3 : goal.returns-then-state-eq3
 returns-then-state-eq3 c =
-    let g = c in
-    ap Busy c.talk.ensures ∙ sym (is_busy g.before.before.args.w.now (sym g.get8.ensures ∙ c.if-state-eq3.true))
+    ap Busy c.talk.ensures ∙ sym (is_busy c.args.w.now (sym c.get8-state.ensures ∙ c.if-state-eq3.true))
 
 pub returns-then-state-eq4 : goal.returns-then-state-eq4
 returns-then-state-eq4 c =
-    let g = c in
-    ap Done c.line-then-state-eq4.ensures ∙ sym (is_done g.before.before.args.w.now (sym g.get8.ensures ∙ c.if-state-eq4.true))
+    ap Done c.line-then-state-eq4.ensures ∙ sym (is_done c.args.w.now (sym c.get8-state.ensures ∙ c.if-state-eq4.true))
 
 pub returns-then-state-eq5 : goal.returns-then-state-eq5
 returns-then-state-eq5 c =
-    let g = c in
-    sym (is_ended g.before.before.args.w.now (sym g.get8.ensures ∙ c.if-state-eq5.true))
+    sym (is_ended c.args.w.now (sym c.get8-state.ensures ∙ c.if-state-eq5.true))
 
 pub returns : goal.returns
 unfolding slot_in
 returns c =
-    let g = c in
-    let state = g.get8.result in
+    let state = c.get8-state.result in
     sym (rw (
-      ← g.get8.ensures,
+      ← c.get8-state.ensures,
       ne_eqb state 1 c.if-state-eq1.false,
       ne_eqb state 2 c.if-state-eq2.false,
       ne_eqb state 3 c.if-state-eq3.false,

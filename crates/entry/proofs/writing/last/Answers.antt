@@ -5,12 +5,12 @@ use Rattle.entry.proofs.writing.last.Goals as goal
 
 pub returns-in-I : goal.returns-in-I
 unfolding last_bytes
-returns-in-I c = sym (rw c.enum_told-1.given.1)
+returns-in-I c = sym (rw c.in-I.is)
 
 pub returns-in-R : goal.returns-in-R
 unfolding last_bytes
-returns-in-R c = sym (rw c.l-1.given.1)
+returns-in-R c = sym (rw c.in-R.is)
 
 pub returns-in-S : goal.returns-in-S
 unfolding last_bytes
-returns-in-S c = sym (rw c.l-in-S-1.given.1)
+returns-in-S c = sym (rw c.in-S.is)

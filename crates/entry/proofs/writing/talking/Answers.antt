@@ -40,6 +40,4 @@ laid t b e =
     )
 
 pub returns : goal.returns
-returns c =
-    let g = c in
-    laid g.before.before.before.before.args.t _ g.last.ensures
+returns c = laid c.args.t _ c.last-b.ensures

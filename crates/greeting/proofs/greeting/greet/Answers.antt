@@ -1,4 +1,3 @@
-use borrow.Author.Rules.{rules}
 use Rattle.greeting.specs.Greeting.{while_greeting}
 use mathlib.Core.Path.{sym, ◌∙◌}
 use Rattle.greeting.proofs.greeting.greet.Goals as goal

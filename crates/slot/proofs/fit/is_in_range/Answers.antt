@@ -1,4 +1,3 @@
-use borrow.Author.Rules.{rules}
 use Rattle.slot.specs.Fit.{in_range}
 use mathlib.Core.Path.{sym, ◌∙◌}
 use Rattle.slot.proofs.fit.is_in_range.Goals as goal

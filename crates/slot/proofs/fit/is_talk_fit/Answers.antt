@@ -1,4 +1,3 @@
-use borrow.Author.Rules.{rules}
 use Rattle.slot.specs.Fit.{talk_fits}
 use Rattle.slot.proofs.FitLaws.{in_range_lem}
 use mathlib.Core.Path.{sym, ◌∙◌}

@@ -10,6 +10,14 @@ use borrow.Author.Tests.{le-leb, lt-leb}
 use native.Mathlib.Omega.{arith}
 use Rattle.table.proofs.fresh.lay_out.Goals as goal
 
+pub returns-then-t-lt-TABLE : goal.returns-then-t-lt-TABLE
+unfolding lays_out laid_out
+returns-then-t-lt-TABLE c =
+    let e = lt-leb table_size (length c.args.t.now) c.if-t-lt-TABLE.true in record {
+      value = sym (rw e);
+      t_after = sym (rw e);
+    }
+
 pub returns-then-acceptable : goal.returns-then-acceptable
 unfolding lays_out laid_out
 returns-then-acceptable c =

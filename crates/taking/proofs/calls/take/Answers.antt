@@ -1,4 +1,3 @@
-use borrow.Author.Rules.{rules}
 use Rattle.taking.specs.Calls.{taken}
 use Rattle.slot.proofs.SafeLaws.{range_safe}
 use mathlib.Core.Path.{sym, ◌∙◌}

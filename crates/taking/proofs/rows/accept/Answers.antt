@@ -1,6 +1,4 @@
-use borrow.Author.Rules.{rules}
 use Rattle.taking.specs.Rows.{accepted, acknowledge, completed}
-use Rattle.taking.proofs.SafeLaws.{took_safe}
 use Rattle.slot.specs.declared.parts.Talk.{Talk}
 use mathlib.Core.Path.{sym, ap, ◌∙◌}
 use Rattle.taking.proofs.rows.accept.Goals as goal

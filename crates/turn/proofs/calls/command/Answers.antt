@@ -1,4 +1,3 @@
-use borrow.Author.Rules.{rules}
 use Rattle.turn.specs.Calls.{commanded}
 use Rattle.slot.proofs.SafeLaws.{line_safe}
 use Rattle.session.proofs.FormLaws.{form_fits}

@@ -1,4 +1,3 @@
-use borrow.Author.Rules.{rules}
 use Rattle.turn.specs.Sending.{say_again, again}
 use mathlib.Core.Path.{sym, ◌∙◌, ap}
 use Rattle.turn.proofs.cutting.say_again.Goals as goal

@@ -1,6 +1,4 @@
-use borrow.Author.Rules.{rules}
 use Rattle.turn.specs.Sending.{send_next}
-use Rattle.turn.proofs.SafeLaws.{cut_safe}
 use Rattle.turn.proofs.cutting.send_next.Goals as goal
 
 pub returns : goal.returns

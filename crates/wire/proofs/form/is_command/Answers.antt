@@ -1,4 +1,3 @@
-use borrow.Author.Rules.{rules}
 use Rattle.session.specs.Refusal.{good_form}
 use borrow.Author.Tests.{eq-eqb, ne_eqb, le-leb, lt-leb}
 use lib.ListN.{length, get_or}
