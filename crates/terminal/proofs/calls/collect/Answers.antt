@@ -12,11 +12,19 @@ unfolding collected collected_pool
 returns-then-copy_out c =
     let a = c.args in
     let w : within a.out.now 0 (length (response a.r.now a.i)) ≡ true = sym c.copy_out.ensures.value ∙ c.if-copy_out.true in
-    (c.empty.ensures.value ∙ sym (rw w), (c.empty.ensures.r_after ∙ sym (rw w), c.copy_out.ensures.out_after))
+    record {
+      value = c.empty.ensures.value ∙ sym (rw w);
+      r_after = c.empty.ensures.r_after ∙ sym (rw w);
+      out_after = c.copy_out.ensures.out_after;
+    }
 
 pub returns : goal.returns
 unfolding collected collected_pool
 returns c =
     let a = c.args in
     let w : within a.out.now 0 (length (response a.r.now a.i)) ≡ false = sym c.copy_out.ensures.value ∙ c.if-copy_out.false in
-    (c.rest.ensures ∙ sym (rw w), (sym (rw w), c.copy_out.ensures.out_after))
+    record {
+      value = c.rest.ensures ∙ sym (rw w);
+      r_after = sym (rw w);
+      out_after = c.copy_out.ensures.out_after;
+    }
