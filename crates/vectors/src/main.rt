@@ -11,30 +11,33 @@ mod script;
 mod sessions;
 mod words;
 
-fn pools() {
+use std::io;
+use std::io::Read;
+
+fn pools(rt: &impl Print) -> io::Result<()> {
     let mut region = [170u8; 25464];
-    cells::paper(&mut region);
-    runs::mixed(&mut region);
-    runs::damage(&mut region);
-    runs::unsound(&mut region);
-    runs::lengths();
+    cells::paper(rt, &mut region)?;
+    runs::mixed(rt, &mut region)?;
+    runs::damage(rt, &mut region)?;
+    runs::unsound(rt, &mut region)?;
+    runs::lengths(rt)
 }
 
 // Standard input: the length of the list of ATRs in two bytes, high byte first, the list, and the script of the sessions.
-fn inputs() {
-    let mut space = io::large_buffer();
-    let n = io::read_full(0, &mut space);
-    let given = &space[..n];
-    let size = numbers::get16(given, 0) as usize;
-    cards::listed(lent::part(given, 2, size));
-    script::played(lent::part(given, size + 2, n));
+// Of longer input the first 65,536 bytes are taken.
+fn inputs(rt: &(impl Print + Input + AllocGlobal)) -> io::Result<()> {
+    let mut given = Vec::new(rt.alloc());
+    let n = rt.reader().take(65536).read_to_end(&mut given)?;
+    let size = numbers::get16(&given, 0) as usize;
+    cards::listed(rt, lent::part(&given, 2, size))?;
+    script::played(rt, lent::part(&given, size + 2, n))
 }
 
-fn main() {
-    cards::paper();
-    codec::paper();
-    codec::limits();
-    codec::every_code();
-    pools();
-    inputs();
+fn main(rt: HostRuntime) -> io::Result<()> {
+    cards::paper(&rt)?;
+    codec::paper(&rt)?;
+    codec::limits(&rt)?;
+    codec::every_code(&rt)?;
+    pools(&rt)?;
+    inputs(&rt)
 }

@@ -2,6 +2,8 @@
 // calls on bytes that are no sound region.
 ghost use Rattle.std.specs.Prelude.{◌≤◌, ◌<◌};
 
+use std::io;
+
 // One figure for all that went before and v.
 pub(crate) fn folded(d: usize, v: usize) -> usize
     requires { (d < 65521) × (v < 1000000) }
@@ -78,41 +80,43 @@ fn calls(r: &mut [u8]) -> usize
     d
 }
 
-fn holder(r: &[u8], i: usize) {
-    super::words::say(super::words::HOLDER);
-    super::print::number(i as u64);
-    super::words::say(super::words::LENGTH);
-    super::print::number(response::response_length(r, i) as u64);
-    super::words::say(super::words::FOLDED);
-    super::print::number(response_folded(r, i) as u64);
-    super::cells::holding(r, i);
+fn holder(rt: &impl Print, r: &[u8], i: usize) -> io::Result<()> {
+    super::words::say(rt, super::words::HOLDER)?;
+    super::print::number(rt, i as u64)?;
+    super::words::say(rt, super::words::LENGTH)?;
+    super::print::number(rt, response::response_length(r, i) as u64)?;
+    super::words::say(rt, super::words::FOLDED)?;
+    super::print::number(rt, response_folded(r, i) as u64)?;
+    super::cells::holding(rt, r, i)
 }
 
 // What each holder has, and the number behind the last.
-fn holders(r: &[u8]) {
+fn holders(rt: &impl Print, r: &[u8]) -> io::Result<()> {
     let mut i: usize = 0;
     while i < 9 {
-        holder(r, i);
+        holder(rt, r, i)?;
         i += 1;
     }
+    Ok(())
 }
 
-fn made(r: &mut [u8]) {
-    super::words::say(super::words::ANSWERS);
-    super::print::number(calls(r) as u64);
-    super::words::say(super::words::BYTES);
-    super::print::number(bytes_folded(r) as u64);
-    super::words::say(super::words::END);
-    holders(r);
+fn made(rt: &impl Print, r: &mut [u8]) -> io::Result<()> {
+    super::words::say(rt, super::words::ANSWERS)?;
+    super::print::number(rt, calls(r) as u64)?;
+    super::words::say(rt, super::words::BYTES)?;
+    super::print::number(rt, bytes_folded(r) as u64)?;
+    super::words::say(rt, super::words::END)?;
+    holders(rt, r)
 }
 
-pub(crate) fn mixed(r: &mut [u8]) {
-    super::words::say(super::words::MIXED);
+pub(crate) fn mixed(rt: &impl Print, r: &mut [u8]) -> io::Result<()> {
+    super::words::say(rt, super::words::MIXED)?;
     super::cells::opens(
+        rt,
         r,
         b"\x04\x0C\x14\x00\x0A\x0A\x0A\x0A\x0A\x28\x60\x03\x0A\x0C\x32\x60",
-    );
-    made(r);
+    )?;
+    made(rt, r)
 }
 
 // The byte that stands for b: changed by v, or v itself.
@@ -153,25 +157,25 @@ fn damaged(r: &mut [u8], v: u8, whole: bool) -> usize
     d
 }
 
-fn changed(r: &mut [u8], v: u8, whole: bool) {
+fn changed(rt: &impl Print, r: &mut [u8], v: u8, whole: bool) -> io::Result<()> {
     if whole {
-        super::words::say(super::words::SET_TO);
+        super::words::say(rt, super::words::SET_TO)?;
     } else {
-        super::words::say(super::words::CHANGED_BY);
+        super::words::say(rt, super::words::CHANGED_BY)?;
     }
-    super::print::byte(v);
-    super::words::say(super::words::SOUND_AT);
-    super::print::number(damaged(r, v, whole) as u64);
-    super::words::say(super::words::END);
+    super::print::byte(rt, v)?;
+    super::words::say(rt, super::words::SOUND_AT)?;
+    super::print::number(rt, damaged(r, v, whole) as u64)?;
+    super::words::say(rt, super::words::END)
 }
 
-pub(crate) fn damage(r: &mut [u8]) {
-    changed(r, 1, false);
-    changed(r, 2, false);
-    changed(r, 128, false);
-    changed(r, 255, false);
-    changed(r, 0, true);
-    changed(r, 255, true);
+pub(crate) fn damage(rt: &impl Print, r: &mut [u8]) -> io::Result<()> {
+    changed(rt, r, 1, false)?;
+    changed(rt, r, 2, false)?;
+    changed(rt, r, 128, false)?;
+    changed(rt, r, 255, false)?;
+    changed(rt, r, 0, true)?;
+    changed(rt, r, 255, true)
 }
 
 // Bytes by a counter, from x on.
@@ -188,28 +192,29 @@ fn scatter(s: &mut [u8], x: usize)
 }
 
 // The same calls on bytes that are no sound region.
-pub(crate) fn unsound(r: &mut [u8]) {
-    super::words::say(super::words::UNSOUND);
+pub(crate) fn unsound(rt: &impl Print, r: &mut [u8]) -> io::Result<()> {
+    super::words::say(rt, super::words::UNSOUND)?;
     scatter(r, 1);
-    made(r);
+    made(rt, r)?;
     scatter(r, 77);
-    made(r);
+    made(rt, r)
 }
 
 // Regions of one byte too few and of some too many, and the last bytes of each.
-fn length(s: &mut [u8]) {
+fn length(rt: &impl Print, s: &mut [u8]) -> io::Result<()> {
     super::cells::opens(
+        rt,
         s,
         b"\x00\x00\x00\x00\x00\x00\x00\x00\x00\x00\x00\x00\x00\x00\x00\x00",
-    );
-    super::print::bytes(lent::part(s, 25460, 10));
-    super::words::say(super::words::END);
+    )?;
+    super::print::bytes(rt, lent::part(s, 25460, 10))?;
+    super::words::say(rt, super::words::END)
 }
 
-pub(crate) fn lengths() {
-    super::words::say(super::words::LENGTHS);
+pub(crate) fn lengths(rt: &impl Print) -> io::Result<()> {
+    super::words::say(rt, super::words::LENGTHS)?;
     let mut short = [170u8; 25463];
-    length(&mut short);
+    length(rt, &mut short)?;
     let mut long = [170u8; 25470];
-    length(&mut long);
+    length(rt, &mut long)
 }

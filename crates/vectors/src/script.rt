@@ -4,6 +4,7 @@ ghost use Rattle.std.specs.Prelude.{◌≤◌, length};
 
 use super::sessions::Step;
 use slot::Slot;
+use std::io;
 
 // The slot, and the figure for the calls since the last name.
 #[derive(Clone, Copy)]
@@ -75,82 +76,107 @@ fn numbers(r: &[u8], step: Step, length: usize) -> [usize; 9] {
 }
 
 // The name of a call, in eight letters; none of one that is not printed.
-fn name(op: u8) {
+fn name(rt: &impl Print, op: u8) -> io::Result<()> {
     let names = b"        attach  command event   collect remove  open    append  release ";
-    super::print::text(lent::part(names, (op as usize) * 8, 8));
+    super::print::text(rt, lent::part(names, (op as usize) * 8, 8))
 }
 
 // Prints name and numbers if they are wanted, and folds the numbers, each as two, and then all of the output.
-fn told(figure: u16, numbers: &[usize; 9], out: &[u8], op: u8) -> u16 {
-    name(op);
+fn told(rt: &impl Print, figure: u16, numbers: &[usize; 9], out: &[u8], op: u8) -> io::Result<u16> {
+    name(rt, op)?;
     let mut d = (figure as usize) % 65521;
     let mut i: usize = 0;
     while i < 9 {
         let n = numbers[i];
         if op < 128 {
-            super::print::number(n as u64);
+            super::print::number(rt, n as u64)?;
         }
         d = super::runs::folded(d, n / 65536 % 65536);
         d = super::runs::folded(d, n % 65536);
         i += 1;
     }
-    super::runs::folded(d, super::runs::bytes_folded(out)) as u16
+    Ok(super::runs::folded(d, super::runs::bytes_folded(out)) as u16)
 }
 
-fn written(out: &[u8], op: u8) {
+fn written(rt: &impl Print, out: &[u8], op: u8) -> io::Result<()> {
     if op < 128 {
-        super::words::say(super::words::BYTES_FOLLOW);
-        super::print::bytes(out);
-        super::words::say(super::words::END);
+        super::words::say(rt, super::words::BYTES_FOLLOW)?;
+        super::print::bytes(rt, out)?;
+        super::words::say(rt, super::words::END)?;
     }
+    Ok(())
 }
 
 // What a call answered: its block or response written, printed if it is wanted, and folded.
-fn answered(r: &[u8], step: Step, kept: &[u8], out: &mut [u8], op: u8, figure: u16) -> u16 {
+fn answered(
+    rt: &impl Print,
+    r: &[u8],
+    step: Step,
+    kept: &[u8],
+    out: &mut [u8],
+    op: u8,
+    figure: u16,
+) -> io::Result<u16> {
     let length = place(out, step, kept);
-    let folded = told(figure, &numbers(r, step, length), out, op);
-    written(lent::part(out, 0, length), op);
-    folded
+    let folded = told(rt, figure, &numbers(r, step, length), out, op)?;
+    written(rt, lent::part(out, 0, length), op)?;
+    Ok(folded)
 }
 
 // Makes a call with an output of bytes AA.
-fn play(r: &mut [u8], seat: Seat, kept: &mut [u8], op: u8, a: u8, bytes: &[u8]) -> Seat {
+fn play(
+    rt: &impl Print,
+    r: &mut [u8],
+    seat: Seat,
+    kept: &mut [u8],
+    op: u8,
+    a: u8,
+    bytes: &[u8],
+) -> io::Result<Seat> {
     let mut out = [170u8; 600];
     let slot = seat.slot;
     let step = call(r, slot, op % 128, a, bytes, &mut out);
     keep(kept, op, step.number, bytes);
-    let figure = answered(r, step, kept, &mut out, op, seat.figure);
+    let figure = answered(rt, r, step, kept, &mut out, op, seat.figure)?;
     let next = step.next;
     let then = next.slot;
-    Seat {
+    Ok(Seat {
         slot: then,
         figure: figure,
-    }
+    })
 }
 
 // The figure of the run that ends, and the name of the next.
-fn named(figure: u16, bytes: &[u8]) {
-    super::words::say(super::words::FIGURE);
-    super::print::number(figure as u64);
-    super::words::say(super::words::END);
-    super::print::text(bytes);
-    super::words::say(super::words::END);
+fn named(rt: &impl Print, figure: u16, bytes: &[u8]) -> io::Result<()> {
+    super::words::say(rt, super::words::FIGURE)?;
+    super::print::number(rt, figure as u64)?;
+    super::words::say(rt, super::words::END)?;
+    super::print::text(rt, bytes)?;
+    super::words::say(rt, super::words::END)
 }
 
-fn line(r: &mut [u8], seat: Seat, kept: &mut [u8], op: u8, a: u8, bytes: &[u8]) -> Seat {
+fn line(
+    rt: &impl Print,
+    r: &mut [u8],
+    seat: Seat,
+    kept: &mut [u8],
+    op: u8,
+    a: u8,
+    bytes: &[u8],
+) -> io::Result<Seat> {
     if op == 0 {
-        named(seat.figure, bytes);
+        named(rt, seat.figure, bytes)?;
         let slot = seat.slot;
-        return Seat {
+        return Ok(Seat {
             slot: slot,
             figure: 0,
-        };
+        });
     }
-    play(r, seat, kept, op, a, bytes)
+    play(rt, r, seat, kept, op, a, bytes)
 }
 
 // Each line of a script.
-fn each(r: &mut [u8], script: &[u8])
+fn each(rt: &impl Print, r: &mut [u8], script: &[u8]) -> io::Result<()>
     requires { length script.now ≤ 65536 }
 {
     let mut kept = [0u8; 261];
@@ -163,15 +189,17 @@ fn each(r: &mut [u8], script: &[u8])
         let op = numbers::get8(script, at);
         let a = numbers::get8(script, at + 1);
         let n = numbers::get16(script, at + 2) as usize;
-        seat = line(r, seat, &mut kept, op, a, lent::part(script, at + 4, n));
+        seat = line(rt, r, seat, &mut kept, op, a, lent::part(script, at + 4, n))?;
         at += n + 4;
     }
+    Ok(())
 }
 
-pub(crate) fn played(script: &[u8]) {
+pub(crate) fn played(rt: &impl Print, script: &[u8]) -> io::Result<()> {
     let mut region = [170u8; 25464];
-    super::words::say(super::words::SESSIONS);
+    super::words::say(rt, super::words::SESSIONS)?;
     if script.len() <= 65536 {
-        each(&mut region, script);
+        each(rt, &mut region, script)?;
     }
+    Ok(())
 }

@@ -1,4 +1,6 @@
 // The words that are printed: one behind the other in a table, each with a byte 0 behind it. A word's name is its place.
+use std::io;
+
 pub(crate) const END: usize = 0;
 
 pub(crate) const SPACE: usize = 2;
@@ -140,15 +142,16 @@ pub(crate) const SOUND_AT: usize = 597;
 pub(crate) const FIGURE: usize = 608;
 
 // Prints a word.
-pub(crate) fn say(word: usize) {
+pub(crate) fn say(rt: &impl Print, word: usize) -> io::Result<()> {
     let words =
         b"\n\x00 \x00: \x00:\x00P1 to P6\n\x00P7\n\x00P8\n\x00P9\n\x00P10\n\x00P11\n\x00P12\n\x00the list\n\x00sizes\n\x00mixed\n\x00unsound\n\x00lengths\n\x00sessions\n\x00ATR\x00sends\x00receives\x00LEN\x00built\x00IFS byte\x00every PCB as I, R, IFS request, IFS response, abort, WTX, EDC, other\n\x00LEN 0, LRC right:\x00LEN 0, LRC wrong:\x00LEN 1, LRC right:\x00LEN 1, LRC wrong:\x00LEN 2, LRC right:\x00LEN 2, LRC wrong:\x00I more\x00I last\x00R\x00IFS request\x00IFS response\x00abort\x00WTX\x00EDC\x00other\x00refused\x00IFSC\x00 distance\x00 CWT\x00 BWT\x00 D\x00 historical\x00 offers F\x00 yes\x00 no\x00shares\x00 ceilings\x00: opens\x00, sound\x00 held\x00 free\x00 next\x00response\x00: copied\x00piece of\x00: taken\x00released:\x00holder\x00: length\x00 response\x00answers\x00 bytes\x00set to\x00changed by\x00: sound at\x00figure\x00";
     let mut i = word;
     while i < words.len() {
         if words[i] == 0 {
-            return;
+            return Ok(());
         }
-        super::print::text(lent::part(words, i, 1));
+        super::print::text(rt, lent::part(words, i, 1))?;
         i += 1;
     }
+    Ok(())
 }

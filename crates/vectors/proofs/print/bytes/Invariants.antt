@@ -3,7 +3,7 @@ use lib.ListN.{length}
 use Rattle.vectors.proofs.print.bytes.Given as goal
 
 abbrev pub invariant-loop-i : goal.invariant-loop-i
-invariant-loop-i l = l.i ≤ length l.s
+invariant-loop-i g l = l.i ≤ length l.s
 
 abbrev pub decreases-loop-i : goal.decreases-loop-i
-decreases-loop-i l = length l.s - l.i
+decreases-loop-i g l = length l.s - l.i
