@@ -38,7 +38,7 @@ returns-in-Refused c =
     let x : Input = attaching t out rec a.atr.now in
     let whole : refusal_of t a.slot x ≡ or_else c.attach-number.result (number_of a.atr.now) =
     attach_tried t a.slot (lends (length t) (length out) (length rec)) a.atr.now ∙ ap (λ (k : ℕ). or_else k (number_of a.atr.now)) (sym c.attach-number.ensures) in
-    let e = c.number-1.given.1 in
+    let e = c.if-number-ne0.given.1 in
     let k = sym c.read.ensures.result_value.0 ∙ ap number_in e in
     let d = subst Told (sym c.read.ensures.value ∙ e) (answer-told a.atr.now) in
     let f = call.refused t out rec a.slot x (number_of a.atr.now) (whole ∙ rw (eq-eqb c.attach-number.result 0 c.if-number-ne0.false)) (λ z. omega (arith, d.0, k, z)) in
