@@ -26,8 +26,12 @@ returns-then-number-ne0 c =
     let x : Input = attaching t out rec a.atr.now in
     let whole : refusal_of t a.slot x ≡ or_else c.attach-number.result (number_of a.atr.now) =
     attach_tried t a.slot (lends (length t) (length out) (length rec)) a.atr.now ∙ ap (λ (k : ℕ). or_else k (number_of a.atr.now)) (sym c.attach-number.ensures) in
-    let f = call.refused t out rec a.slot x c.attach-number.result (whole ∙ rw (ne_eqb c.attach-number.result 0 c.if-number-ne0.true)) c.if-number-ne0.true in
-    (c.refused.ensures.value ∙ f.0, (f.1.0, (f.1.1.0, c.refused.ensures.rec_after ∙ f.1.1.1)))
+    let f = call.refused t out rec a.slot x c.attach-number.result (whole ∙ rw (ne_eqb c.attach-number.result 0 c.if-number-ne0.true)) c.if-number-ne0.true in record {
+      value = c.refused.ensures.value ∙ f.0;
+      table_after = f.1.0;
+      out_after = f.1.1.0;
+      rec_after = c.refused.ensures.rec_after ∙ f.1.1.1;
+    }
 
 pub returns-in-Refused : goal.returns-in-Refused
 returns-in-Refused c =
@@ -38,11 +42,15 @@ returns-in-Refused c =
     let x : Input = attaching t out rec a.atr.now in
     let whole : refusal_of t a.slot x ≡ or_else c.attach-number.result (number_of a.atr.now) =
     attach_tried t a.slot (lends (length t) (length out) (length rec)) a.atr.now ∙ ap (λ (k : ℕ). or_else k (number_of a.atr.now)) (sym c.attach-number.ensures) in
-    let e = c.if-number-ne0.given.1 in
-    let k = sym c.read.ensures.result_value.0 ∙ ap number_in e in
+    let e = c.in-Refused.is in
+    let k = sym c.read.ensures.number ∙ ap number_in e in
     let d = subst Told (sym c.read.ensures.value ∙ e) (answer-told a.atr.now) in
-    let f = call.refused t out rec a.slot x (number_of a.atr.now) (whole ∙ rw (eq-eqb c.attach-number.result 0 c.if-number-ne0.false)) (λ z. omega (arith, d.0, k, z)) in
-    (c.refused-in-Refused.ensures.value ∙ sym k ∙ f.0, (f.1.0, (f.1.1.0, c.refused-in-Refused.ensures.rec_after ∙ ap (λ (j : ℕ). told rec (refuses j)) (sym k) ∙ f.1.1.1)))
+    let f = call.refused t out rec a.slot x (number_of a.atr.now) (whole ∙ rw (eq-eqb c.attach-number.result 0 c.if-number-ne0.false)) (λ z. omega (arith, d.0, k, z)) in record {
+      value = c.refused-in-Refused.ensures.value ∙ sym k ∙ f.0;
+      table_after = f.1.0;
+      out_after = f.1.1.0;
+      rec_after = c.refused-in-Refused.ensures.rec_after ∙ ap (λ (j : ℕ). told rec (refuses j)) (sym k) ∙ f.1.1.1;
+    }
 
 pub returns-in-Taken : goal.returns-in-Taken
 returns-in-Taken c =
@@ -53,17 +61,13 @@ returns-in-Taken c =
     let x : Input = attaching t out rec a.atr.now in
     let whole : refusal_of t a.slot x ≡ or_else c.attach-number.result (number_of a.atr.now) =
     attach_tried t a.slot (lends (length t) (length out) (length rec)) a.atr.now ∙ ap (λ (k : ℕ). or_else k (number_of a.atr.now)) (sym c.attach-number.ensures) in
-    let e = c.report-1.given.1 in
-    let none : refusal_of t a.slot x ≡ 0 = whole ∙ rw (eq-eqb c.attach-number.result 0 c.if-number-ne0.false) (sym c.read.ensures.result_value.0 ∙ ap number_in e) in
+    let e = c.in-Taken.is in
+    let none : refusal_of t a.slot x ≡ 0 = whole ∙ rw (eq-eqb c.attach-number.result 0 c.if-number-ne0.false) (sym c.read.ensures.number ∙ ap number_in e) in
     let p = ap report_in (sym e ∙ c.read.ensures.value) in
     let r = report_in (answer_of a.atr.now) in
-    let f = call.attach_leaves t out rec a.slot (attached r) (sent_length out (attached r).send (command_in t a.slot)) a.atr.now r none refl refl refl in (
-      f.0,
-      (
-        c.attach.ensures.t_after ∙ ap (λ (q : Report). with_slot t a.slot (attached q).slot) p ∙ f.1.0,
-        (
-          c.attach.ensures.out_after.0 ∙ ap (λ (q : Report). sent_out out (attached q).send (command_in t a.slot)) p ∙ f.1.1.0,
-          c.attach.ensures.out_after.1 ∙ ap (λ (q : Report). told_of rec (attached q) (sent_length out (attached q).send (command_in t a.slot)) q) p ∙ f.1.1.1,
-        ),
-      ),
-    )
+    let f = call.attach_leaves t out rec a.slot (attached r) (sent_length out (attached r).send (command_in t a.slot)) a.atr.now r none refl refl refl in record {
+      value = f.0;
+      table_after = c.attach.ensures.t_after ∙ ap (λ (q : Report). with_slot t a.slot (attached q).slot) p ∙ f.1.0;
+      out_after = c.attach.ensures.out_after ∙ ap (λ (q : Report). sent_out out (attached q).send (command_in t a.slot)) p ∙ f.1.1.0;
+      rec_after = c.attach.ensures.rec_after ∙ ap (λ (q : Report). told_of rec (attached q) (sent_length out (attached q).send (command_in t a.slot)) q) p ∙ f.1.1.1;
+    }

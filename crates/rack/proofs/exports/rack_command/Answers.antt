@@ -14,8 +14,12 @@ returns-then-number-ne0 c =
     let t = a.table.now in
     let out = a.out.now in
     let rec = a.rec.now in
-    let f = call.refused t out rec a.slot (commanding t out rec a.bytes.now) c.command-number.result (sym c.command-number.ensures) c.if-number-ne0.true in
-    (c.refused.ensures.value ∙ f.0, (f.1.0, (f.1.1.0, c.refused.ensures.rec_after ∙ f.1.1.1)))
+    let f = call.refused t out rec a.slot (commanding t out rec a.bytes.now) c.command-number.result (sym c.command-number.ensures) c.if-number-ne0.true in record {
+      value = c.refused.ensures.value ∙ f.0;
+      table_after = f.1.0;
+      out_after = f.1.1.0;
+      rec_after = c.refused.ensures.rec_after ∙ f.1.1.1;
+    }
 
 pub returns : goal.returns
 returns c =
@@ -25,5 +29,9 @@ returns c =
     let rec = a.rec.now in
     let bs = a.bytes.now in
     let n = commanded (line_in (entry_in t a.slot)) bs in
-    let f = call.command_leaves t out rec a.slot n (sent_length out n.send bs) bs (sym c.command-number.ensures ∙ c.if-number-ne0.false) refl refl in
-    (f.0, (c.command.ensures.t_after ∙ f.1.0, (c.command.ensures.out_after.0 ∙ f.1.1.0, c.command.ensures.out_after.1 ∙ f.1.1.1)))
+    let f = call.command_leaves t out rec a.slot n (sent_length out n.send bs) bs (sym c.command-number.ensures ∙ c.if-number-ne0.false) refl refl in record {
+      value = f.0;
+      table_after = c.command.ensures.t_after ∙ f.1.0;
+      out_after = c.command.ensures.out_after ∙ f.1.1.0;
+      rec_after = c.command.ensures.rec_after ∙ f.1.1.1;
+    }

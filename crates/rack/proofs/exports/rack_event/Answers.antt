@@ -19,8 +19,12 @@ returns-then-number-ne0 c =
     let out = a.out.now in
     let rec = a.rec.now in
     let bs = a.bytes.now in
-    let f = call.refused t out rec a.slot (hearing t out rec a.kind bs) c.event-number.result (event-refusal t a.slot (lends (length t) (length out) (length rec)) a.kind bs ∙ sym c.event-number.ensures) c.if-number-ne0.true in
-    (c.refused.ensures.value ∙ f.0, (f.1.0, (f.1.1.0, c.refused.ensures.rec_after ∙ f.1.1.1)))
+    let f = call.refused t out rec a.slot (hearing t out rec a.kind bs) c.event-number.result (event-refusal t a.slot (lends (length t) (length out) (length rec)) a.kind bs ∙ sym c.event-number.ensures) c.if-number-ne0.true in record {
+      value = c.refused.ensures.value ∙ f.0;
+      table_after = f.1.0;
+      out_after = f.1.1.0;
+      rec_after = c.refused.ensures.rec_after ∙ f.1.1.1;
+    }
 
 pub returns : goal.returns
 returns c =
@@ -34,10 +38,9 @@ returns c =
     let n = event_in t a.slot a.kind bs in
     let v = event_pool t a.slot a.kind bs in
     let g = heard.left_long t out rec a.slot a.kind bs (sound_long t (none_sound t a.slot (hearing t out rec a.kind bs) none)) in
-    let f = call.event_leaves t out rec a.slot n (sent_length out n.send (command_in v a.slot)) (lends 0 0 0) a.kind bs v none refl refl refl in (
-      f.0,
-      (
-        c.event.ensures.t_after ∙ sym g.0 ∙ f.1.0,
-        (c.event.ensures.out_after.0 ∙ sym g.1 ∙ f.1.1.0, c.event.ensures.out_after.1 ∙ sym g.2 ∙ f.1.1.1),
-      ),
-    )
+    let f = call.event_leaves t out rec a.slot n (sent_length out n.send (command_in v a.slot)) (lends 0 0 0) a.kind bs v none refl refl refl in record {
+      value = f.0;
+      table_after = c.event.ensures.t_after ∙ sym g.0 ∙ f.1.0;
+      out_after = c.event.ensures.out_after ∙ sym g.1 ∙ f.1.1.0;
+      rec_after = c.event.ensures.rec_after ∙ sym g.2 ∙ f.1.1.1;
+    }

@@ -12,8 +12,11 @@ returns-then-number-ne0 c =
     let a = c.args in
     let t = a.table.now in
     let rec = a.rec.now in
-    let f = call.remove-refused t rec a.slot c.remove-number.result (sym c.remove-number.ensures) c.if-number-ne0.true in
-    (c.refused.ensures.value ∙ f.0, (f.1.0, c.refused.ensures.rec_after ∙ f.1.1))
+    let f = call.remove-refused t rec a.slot c.remove-number.result (sym c.remove-number.ensures) c.if-number-ne0.true in record {
+      value = c.refused.ensures.value ∙ f.0;
+      table_after = f.1.0;
+      rec_after = c.refused.ensures.rec_after ∙ f.1.1;
+    }
 
 pub returns : goal.returns
 returns c =
@@ -22,5 +25,8 @@ returns c =
     let rec = a.rec.now in
     let none : refusal_of t a.slot (removing t rec) ≡ 0 = sym c.remove-number.ensures ∙ c.if-number-ne0.false in
     let g = left.removed_long t rec a.slot (sound_long t (none_sound t a.slot (removing t rec) none)) in
-    let f = call.remove_leaves t rec a.slot none in
-    (f.0, (c.remove.ensures.t_after ∙ sym g.0 ∙ f.1.0, c.remove.ensures.rec_after ∙ sym g.1 ∙ f.1.1))
+    let f = call.remove_leaves t rec a.slot none in record {
+      value = f.0;
+      table_after = c.remove.ensures.t_after ∙ sym g.0 ∙ f.1.0;
+      rec_after = c.remove.ensures.rec_after ∙ sym g.1 ∙ f.1.1;
+    }
