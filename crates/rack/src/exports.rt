@@ -1,4 +1,4 @@
-// The six calls, as C makes them: a slice is a pointer and a length, a `&[u8; 8]` a pointer.
+// The six calls. C makes them through the crate `rack_c`, which exports them under the same names and promises.
 ghost use Rattle.std.specs.Prelude.{◌≡◌};
 ghost use Rattle.lent.specs.Place.{splice};
 ghost use Rattle.session.specs.Call.{refuses};
@@ -18,13 +18,7 @@ fn refused(rec: &mut [u8], number: u8) -> u64
 }
 
 // Open: a fresh table with these shares and ceilings.
-#[unsafe(no_mangle)]
-pub extern "C" fn rack_open(
-    table: &mut [u8],
-    shares: &[u8; 8],
-    ceilings: &[u8; 8],
-    rec: &mut [u8],
-) -> u64
+pub fn rack_open(table: &mut [u8], shares: &[u8; 8], ceilings: &[u8; 8], rec: &mut [u8]) -> u64
     ensures value { result ≡ (open_answer table.old shares.now ceilings.now rec.old).number }
     ensures table_after { table.new ≡ opened table.old shares.now ceilings.now rec.old }
     ensures rec_after { rec.new ≡ told rec.old (open_answer table.old shares.now ceilings.now rec.old) }
@@ -39,14 +33,7 @@ pub extern "C" fn rack_open(
 }
 
 // Attach: a card with this ATR in an empty slot. S(IFS request) goes out.
-#[unsafe(no_mangle)]
-pub extern "C" fn rack_attach(
-    table: &mut [u8],
-    slot: u64,
-    atr: &[u8],
-    out: &mut [u8],
-    rec: &mut [u8],
-) -> u64
+pub fn rack_attach(table: &mut [u8], slot: u64, atr: &[u8], out: &mut [u8], rec: &mut [u8]) -> u64
     ensures value { result ≡ (answer table.old slot (attaching table.old out.old rec.old atr.now)).number }
     ensures table_after { table.new ≡ table_after table.old slot (attaching table.old out.old rec.old atr.now) }
     ensures out_after { out.new ≡ splice out.old 0 (answer table.old slot (attaching table.old out.old rec.old atr.now)).out }
@@ -66,8 +53,7 @@ pub extern "C" fn rack_attach(
 }
 
 // Command: its first I-block goes out.
-#[unsafe(no_mangle)]
-pub extern "C" fn rack_command(
+pub fn rack_command(
     table: &mut [u8],
     slot: u64,
     bytes: &[u8],
@@ -88,8 +74,7 @@ pub extern "C" fn rack_command(
 }
 
 // Event: what the card sent (kind 0), a parity fault (1), or silence (2).
-#[unsafe(no_mangle)]
-pub extern "C" fn rack_event(
+pub fn rack_event(
     table: &mut [u8],
     slot: u64,
     kind: u64,
@@ -111,8 +96,7 @@ pub extern "C" fn rack_event(
 }
 
 // Collect: the response of a slot that is done.
-#[unsafe(no_mangle)]
-pub extern "C" fn rack_collect(table: &mut [u8], slot: u64, out: &mut [u8], rec: &mut [u8]) -> u64
+pub fn rack_collect(table: &mut [u8], slot: u64, out: &mut [u8], rec: &mut [u8]) -> u64
     ensures value { result ≡ (answer table.old slot (collecting table.old out.old rec.old)).number }
     ensures table_after { table.new ≡ table_after table.old slot (collecting table.old out.old rec.old) }
     ensures out_after { out.new ≡ splice out.old 0 (answer table.old slot (collecting table.old out.old rec.old)).out }
@@ -127,8 +111,7 @@ pub extern "C" fn rack_collect(table: &mut [u8], slot: u64, out: &mut [u8], rec:
 }
 
 // Remove: the slot is empty.
-#[unsafe(no_mangle)]
-pub extern "C" fn rack_remove(table: &mut [u8], slot: u64, rec: &mut [u8]) -> u64
+pub fn rack_remove(table: &mut [u8], slot: u64, rec: &mut [u8]) -> u64
     ensures value { result ≡ (answer table.old slot (removing table.old rec.old)).number }
     ensures table_after { table.new ≡ table_after table.old slot (removing table.old rec.old) }
     ensures rec_after { rec.new ≡ told rec.old (answer table.old slot (removing table.old rec.old)) }
