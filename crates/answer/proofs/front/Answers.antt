@@ -1,7 +1,6 @@
 use Rattle.answer.specs.Record.{front_bytes}
 use Rattle.lent.specs.Number.{bytes_of}
 use native.Mathlib.Nat.{div-one}
-use borrow.Author.Rules.{rules}
 use Rattle.answer.proofs.front.Goals as goal
 
 pub returns : goal.returns

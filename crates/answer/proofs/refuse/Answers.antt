@@ -1,6 +1,5 @@
 use Rattle.answer.specs.Record.{field_bytes, front_bytes, record_bytes, report_bytes, told}
 use Rattle.lent.specs.Number.{bytes_of}
-use borrow.Author.Rules.{rules}
 use Rattle.answer.proofs.refuse.Goals as goal
 
 pub returns : goal.returns

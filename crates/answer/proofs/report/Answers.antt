@@ -1,7 +1,6 @@
 use Rattle.answer.specs.Record.{report_bytes}
 use Rattle.lent.specs.Number.{bytes_of}
 use native.Mathlib.Nat.{div-one}
-use borrow.Author.Rules.{rules}
 use Rattle.answer.proofs.report.Goals as goal
 
 pub returns : goal.returns

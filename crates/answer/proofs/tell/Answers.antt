@@ -2,7 +2,6 @@ use Rattle.answer.specs.Record.{front_bytes, told_of}
 use Rattle.lent.specs.Place.{splice}
 use Rattle.slot.specs.View.{slot_no}
 use Rattle.answer.proofs.RecordLaws.{fields_short, fields_steps}
-use borrow.Author.Rules.{rules}
 use mathlib.Core.Path.{◌∙◌, ap, ap₂, sym}
 use mathlib.Core.List.{List}
 use Prim.Native.Nat.{ℕ}

@@ -1,7 +1,6 @@
 use Rattle.entry.specs.Entry.{state_in}
 use Rattle.table.specs.Layout.{entry_in}
 use Rattle.hearing.proofs.PartLaws.{left_busy, left_greeting, left_short}
-use borrow.Author.Rules.{rules}
 use mathlib.Core.Path.{◌∙◌, ◌≡◌, ap, sym}
 use mathlib.Core.Bool.{false, true}
 use lib.Dec.{eqb}

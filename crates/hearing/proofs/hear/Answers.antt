@@ -11,7 +11,6 @@ use Rattle.hearing.specs.Parts.{heard_in, heard_pool}
 use mathlib.Core.Path.{◌∙◌, ◌≡◌, ap}
 use Rattle.hearing.proofs.PartLaws.{finish_ap}
 use Rattle.lent.specs.Place.{window}
-use borrow.Author.Rules.{rules}
 use mathlib.Core.List.{List}
 use Prim.Native.Nat.{ℕ}
 use Rattle.hearing.proofs.hear.Goals as goal

@@ -1,8 +1,6 @@
 use Rattle.answer.specs.Record.{told_of}
-use Rattle.table.specs.Layout.{pool_at, pool_in, with_pool, with_slot}
-use Rattle.region.specs.Layout.{size}
+use Rattle.table.specs.Layout.{pool_in, with_pool, with_slot}
 use Rattle.table.proofs.WriteLaws.{pool_back}
-use borrow.Rule.Slice.PartMut.{same_len_mid}
 use Rattle.slot.specs.declared.parts.Line.{Line}
 use Rattle.slot.specs.declared.parts.Next.{Next}
 use Rattle.pool.specs.Calls.{response}
@@ -12,7 +10,6 @@ use Rattle.lent.specs.Place.{window}
 use Rattle.atr.specs.Answer.{zeros}
 use Rattle.leaving.specs.Leave.{collected_in}
 use Rattle.leaving.proofs.LeaveLaws.{collected_long, collected-short}
-use borrow.Author.Rules.{rules}
 use mathlib.Core.Path.{◌∙◌, ◌≡◌, ap, ap₂}
 use mathlib.Core.List.{List}
 use Prim.Native.Nat.{ℕ}

@@ -1,13 +1,10 @@
 use Rattle.answer.specs.Record.{told_of}
-use Rattle.table.specs.Layout.{pool_at, pool_in, with_pool, with_slot}
-use Rattle.region.specs.Layout.{size}
+use Rattle.table.specs.Layout.{pool_in, with_pool, with_slot}
 use Rattle.table.proofs.WriteLaws.{pool_back}
-use borrow.Rule.Slice.PartMut.{same_len_mid}
 use Rattle.slot.specs.declared.parts.Next.{Next}
 use Rattle.lent.specs.Place.{window}
 use Rattle.atr.specs.Answer.{zeros}
 use Rattle.leaving.proofs.LeaveLaws.{removed_long, removed-short}
-use borrow.Author.Rules.{rules}
 use mathlib.Core.Path.{◌∙◌, ap, ap₂}
 use mathlib.Core.List.{List}
 use Prim.Native.Nat.{ℕ}

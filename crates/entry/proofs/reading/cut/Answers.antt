@@ -1,4 +1,3 @@
-use borrow.Author.Rules.{rules}
 use Rattle.entry.specs.Entry.{cut_in}
 use Rattle.entry.proofs.reading.cut.Goals as goal
 

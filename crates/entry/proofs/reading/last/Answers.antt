@@ -1,4 +1,3 @@
-use borrow.Author.Rules.{rules}
 use Rattle.entry.specs.Entry.{last_in}
 use mathlib.Core.Path.{sym}
 use borrow.Author.Tests.{ne_eqb}

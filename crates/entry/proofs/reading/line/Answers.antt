@@ -1,4 +1,3 @@
-use borrow.Author.Rules.{rules}
 use Rattle.entry.specs.Entry.{line_in}
 use Rattle.entry.proofs.reading.line.Goals as goal
 

@@ -1,4 +1,3 @@
-use borrow.Author.Rules.{rules}
 use Rattle.entry.specs.Entry.{slot_in}
 use mathlib.Core.Path.{sym, ap, ap₂, ◌∙◌}
 use borrow.Author.Tests.{ne_eqb}

@@ -1,4 +1,3 @@
-use borrow.Author.Rules.{rules}
 use Rattle.entry.specs.Entry.{talk_in}
 use Rattle.entry.proofs.reading.talk.Goals as goal
 

@@ -1,4 +1,3 @@
-use borrow.Author.Rules.{rules}
 use Rattle.entry.specs.Entry.{turn_in}
 use Rattle.entry.proofs.reading.turn.Goals as goal
 

@@ -1,4 +1,3 @@
-use borrow.Author.Rules.{rules}
 use Rattle.entry.specs.Entry.{slot_bytes}
 use mathlib.Core.Path.{sym, ◌∙◌}
 use Rattle.entry.proofs.writing.bytes.Goals as goal

@@ -1,4 +1,3 @@
-use borrow.Author.Rules.{rules}
 use Rattle.entry.specs.Entry.{plain_bytes, line_bytes}
 use mathlib.Core.Path.{sym}
 use Rattle.lent.specs.Number.{bytes_of}

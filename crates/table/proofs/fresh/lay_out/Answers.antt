@@ -2,12 +2,10 @@ use Rattle.table.specs.Layout.{table_size}
 use Rattle.region.specs.Layout.{pool_of}
 use Rattle.table.specs.Fresh.{laid_out, lays_out}
 use Rattle.shares.specs.Pool.{fit}
-use borrow.Author.Rules.{rules}
 use mathlib.Core.Path.{◌∙◌, ◌≡◌, sym}
 use mathlib.Core.Bool.{false, true}
 use lib.ListN.{length}
 use borrow.Author.Tests.{le-leb, lt-leb}
-use native.Mathlib.Omega.{arith}
 use Rattle.table.proofs.fresh.lay_out.Goals as goal
 
 pub returns-then-t-lt-TABLE : goal.returns-then-t-lt-TABLE

@@ -5,7 +5,6 @@ use Rattle.region.specs.Layout.{holders, size}
 use Rattle.table.specs.Fresh.{head}
 use Rattle.table.proofs.FreshLaws.{fresh_steps, region_laid}
 use borrow.Rule.Slice.PartMut.{put_mid}
-use borrow.Author.Rules.{rules}
 use mathlib.Core.Path.{◌∙◌, ◌≡◌, ap, ap₂}
 use mathlib.Core.List.{List}
 use Prim.Native.Nat.{◌-◌, ℕ}

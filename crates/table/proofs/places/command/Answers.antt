@@ -3,7 +3,6 @@ use Rattle.lent.specs.Place.{window}
 use Rattle.region.specs.Layout.{holders}
 use Rattle.lent.proofs.PlaceLaws.{window_none}
 use Rattle.entry.specs.Entry.{whole_in}
-use borrow.Author.Rules.{rules}
 use mathlib.Core.Path.{◌∙◌, ap, sym}
 use Prim.Native.Nat.{◌+◌, min}
 use borrow.Author.Tests.{le-ltb, lt-ltb}

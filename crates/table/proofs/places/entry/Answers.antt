@@ -1,7 +1,6 @@
 use Rattle.table.specs.Layout.{entry_in}
 use Rattle.region.specs.Layout.{holders}
 use Rattle.lent.proofs.PlaceLaws.{window_none}
-use borrow.Author.Rules.{rules}
 use mathlib.Core.Path.{◌∙◌, sym}
 use borrow.Author.Tests.{le-ltb, lt-ltb}
 use Rattle.table.proofs.places.entry.Goals as goal

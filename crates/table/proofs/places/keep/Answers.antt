@@ -1,6 +1,5 @@
 use Rattle.table.specs.Layout.{command_size, with_command}
 use Rattle.region.specs.Layout.{holders}
-use borrow.Author.Rules.{rules}
 use mathlib.Core.Path.{◌∙◌, sym}
 use lib.ListN.{length}
 use borrow.Author.Tests.{le-leb, le-ltb, lt-leb, lt-ltb}

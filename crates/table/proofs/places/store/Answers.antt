@@ -1,7 +1,6 @@
 use Rattle.table.specs.Layout.{slot_at, with_slot}
 use Rattle.lent.specs.Place.{splice}
 use Rattle.region.specs.Layout.{holders}
-use borrow.Author.Rules.{rules}
 use mathlib.Core.Path.{◌∙◌, ap, sym}
 use borrow.Author.Tests.{le-ltb, lt-ltb}
 use Rattle.table.proofs.places.store.Goals as goal

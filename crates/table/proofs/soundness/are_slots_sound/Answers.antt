@@ -1,11 +1,10 @@
-use Prim.Native.Nat.{◌-◌, ◌≤◌}
 use mathlib.Core.Path.{◌≡◌, refl, sym, ◌∙◌}
 use mathlib.Core.Bool.{true, false}
 use native.Mathlib.Omega.{arith}
 use Rattle.region.specs.Layout.{holders}
 use Rattle.table.specs.Sound.{slot_sound}
 use Rattle.lent.specs.Fold.{all}
-use Rattle.lent.proofs.FoldLaws.{all_next, all_fails, all_end}
+use Rattle.lent.proofs.FoldLaws.{all_next, all_fails}
 use Rattle.table.proofs.soundness.are_slots_sound.Goals as goal
 
 pub loop-i-init : goal.loop-i-init

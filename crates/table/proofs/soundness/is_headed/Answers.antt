@@ -1,5 +1,4 @@
 use Rattle.table.specs.Sound.{headed}
-use borrow.Author.Rules.{rules}
 use mathlib.Core.Path.{◌∙◌, ap, sym}
 use Prim.Native.Nat.{ℕ}
 use lib.ListN.{get_or}

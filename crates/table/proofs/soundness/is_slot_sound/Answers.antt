@@ -3,7 +3,6 @@ use Rattle.entry.specs.Entry.{formed, slot_in}
 use Rattle.slot.specs.Fit.{fits}
 use Rattle.region.specs.Holding.{held_by}
 use Rattle.table.specs.Layout.{entry_in}
-use borrow.Author.Rules.{rules}
 use mathlib.Core.Path.{◌∙◌, ◌≡◌, ap, ap₂, sym}
 use mathlib.Core.Bool.{false, true}
 use mathlib.Core.List.{List}

@@ -1,5 +1,4 @@
 use Rattle.table.specs.Layout.{pool_in, table_size}
-use borrow.Author.Rules.{rules}
 use mathlib.Core.Path.{◌∙◌, ◌≡◌, ap, sym}
 use mathlib.Core.Bool.{false, true}
 use lib.ListN.{length}
