@@ -1,6 +1,7 @@
 // The record of an answer: 64 lent bytes, as in docs/LAYOUT.md. A shorter record is never written, and bytes beyond 64 are
 // left.
 #![tactic(auto)]
+
 ghost use Rattle.std.specs.Prelude.{◌≡◌};
 ghost use Rattle.session.specs.Call.{refuses};
 ghost use Rattle.slot.specs.View.{slot_no};

@@ -1,5 +1,6 @@
 // An event on a slot that is greeting or busy: the pool's region, the entry, the block that goes out, the record.
 #![tactic(auto)]
+
 ghost use Rattle.std.specs.Prelude.{◌≡◌, ◌≤◌, length};
 ghost use Rattle.slot.specs.Blocks.{sent_out};
 ghost use Rattle.table.specs.Layout.{table_size, command_in, with_slot};

@@ -1,5 +1,6 @@
 // The calls that send nothing: collect and remove. They free the slot's cells and write its entry and the record.
 #![tactic(auto)]
+
 ghost use Rattle.std.specs.Prelude.{◌≡◌};
 ghost use Rattle.atr.specs.Answer.{zeros};
 ghost use Rattle.answer.specs.Record.{told_of};

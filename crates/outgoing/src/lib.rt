@@ -1,6 +1,7 @@
 // The calls that send: the block goes to the output, the slot into the table, the answer into the record. Any bytes and any
 // slot number are taken.
 #![tactic(auto)]
+
 ghost use Rattle.std.specs.Prelude.{◌≡◌};
 ghost use Rattle.atr.specs.Answer.{zeros};
 ghost use Rattle.slot.specs.Blocks.{sent_length, sent_out};

@@ -7,7 +7,6 @@ use lib.ListN.{length}
 use Rattle.lent.specs.Place.{splice}
 use Rattle.lent.proofs.Cases.{cond_case}
 use Rattle.lent.proofs.PlaceLaws.{length-splice}
-use Rattle.shares.specs.Pool.{fit}
 use Rattle.region.specs.Layout.{holders, size, held, pool_of}
 use Rattle.region.specs.Sound.{sound, Good}
 use Rattle.region.specs.Holding.{inside}

@@ -1,8 +1,8 @@
 -- Each row of a slot's numbers shows the paper's row. Assumes nothing.
 use Prim.Native.Nat.{ℕ, ◌+◌, ◌-◌, ◌≤◌, ◌<◌, min}
 use mathlib.Core.Path.{◌≡◌, refl, sym, ap, ap₂, ◌∙◌}
-use mathlib.Core.Bool.{Bool, true, false, cond, not, ◌&&◌, ◌||◌}
-use mathlib.Core.List.{List, [], ◌∷◌, ◌++◌}
+use mathlib.Core.Bool.{Bool, true, false}
+use mathlib.Core.List.{List}
 use native.Mathlib.Omega.{arith}
 use lib.Dec.{ltb, eqb}
 use lib.ListN.{length, take, drop, length-take, length-drop, drop_of_length-le}
@@ -10,29 +10,24 @@ use lib.Seq.{take_all, drop-drop}
 use borrow.Author.Tests.{lt-ltb, le-ltb, ltb-true}
 use Rattle.lent.specs.Place.{window}
 use Rattle.lent.proofs.Cases.{le_or_lt}
-use Rattle.block.specs.declared.event.Event.{Event}
-use Rattle.block.specs.declared.event.Event.TheVariants.{I, R, IfsRequest, IfsResponse, Abort, Wtx, Edc, Other}
 use Rattle.atr.specs.Answer.{zeros}
-use Rattle.pool.specs.Contents.{join}
 use Rattle.session.specs.Slot.{Block, i_block, r_block, s_response, wire, State, busy}
 use Rattle.session.specs.Call.{says}
 use Rattle.session.specs.Sending as paper
 use Rattle.session.specs.Sending.{Did}
 use Rattle.session.specs.Session as rows
 use Rattle.session.specs.Kept.{LineKept}
-use Rattle.slot.specs.declared.parts.Line.{Line}
 use Rattle.slot.specs.declared.parts.Last as last
 use Rattle.slot.specs.declared.parts.Last.{Last}
 use Rattle.slot.specs.declared.parts.Talk.{Talk}
 use Rattle.slot.specs.declared.parts.Slot.TheVariants.{Busy}
 use Rattle.slot.specs.declared.parts.Send.{Send}
-use Rattle.slot.specs.declared.parts.Next.{Next}
 use Rattle.greeting.specs.Sending.{sent_at}
 use Rattle.greeting.proofs.ViewLaws.{Shows, both, ends_shows, goes}
 use Rattle.turn.specs.Sending.{again, in_place, invalid_by, invalid, last_i, next_cut, cut_next, send_next, say_again}
 use Rattle.turn.specs.Rows.{on_r, counted, on_request}
 use Rattle.slot.specs.Blocks.{is_more, inf_in, bytes_of}
-use Rattle.slot.specs.View.{line_of, i_of, standing_of, last_of, talk_of, state_of, said_by}
+use Rattle.slot.specs.View.{line_of, i_of, standing_of, last_of, talk_of, state_of}
 use Rattle.slot.specs.Fit.{CutIn}
 use Rattle.slot.proofs.FitLaws.{Frame}
 

@@ -2,6 +2,8 @@
 // keeps and answers. `stdout` beside src/ holds what it must print, worked out apart from the product (docs/VECTORS.md).
 #![tactic(auto)]
 
+ghost use Rattle.std.specs.Prelude.{◌≤◌, length, IfOk};
+
 mod cards;
 mod cells;
 mod codec;
@@ -23,14 +25,31 @@ fn pools(rt: &impl Print) -> io::Result<()> {
     runs::lengths(rt)
 }
 
+// Fills buf from standard input and answers how many bytes came: fewer only where the input ends.
+fn read_full(rt: &impl Input, buf: &mut [u8]) -> io::Result<usize>
+    ensures { IfOk result (λ n. n ≤ length buf.new) }
+{
+    let mut reader = rt.reader();
+    let mut n: usize = 0;
+    while n < buf.len() {
+        let more = reader.read(&mut buf[n..])?;
+        if more == 0 {
+            break;
+        }
+        n += more;
+    }
+    Ok(n)
+}
+
 // Standard input: the length of the list of ATRs in two bytes, high byte first, the list, and the script of the sessions.
 // Of longer input the first 65,536 bytes are taken.
-fn inputs(rt: &(impl Print + Input + AllocGlobal)) -> io::Result<()> {
-    let mut given = Vec::new(rt.alloc());
-    let n = rt.reader().take(65536).read_to_end(&mut given)?;
-    let size = numbers::get16(&given, 0) as usize;
-    cards::listed(rt, lent::part(&given, 2, size))?;
-    script::played(rt, lent::part(&given, size + 2, n))
+fn inputs(rt: &(impl Print + Input)) -> io::Result<()> {
+    let mut space = [0u8; 65536];
+    let n = read_full(rt, &mut space)?;
+    let given = &space[..n];
+    let size = numbers::get16(given, 0) as usize;
+    cards::listed(rt, lent::part(given, 2, size))?;
+    script::played(rt, lent::part(given, size + 2, n))
 }
 
 fn main(rt: HostRuntime) -> io::Result<()> {

@@ -28,7 +28,7 @@ returns c =
       t_after = c.finish.ensures.t_after ∙ ap (λ (u : List ℕ). with_slot u a.i c.event-n.result.slot) v ∙ f.0;
       out_after = c.finish.ensures.out_after ∙ ap (λ (u : List ℕ). sent_out a.out.now c.event-n.result.send (command_in u a.i)) v ∙ f.1;
       rec_after =
-        c.finish.ensures.rec_after
-        ∙ ap (λ (u : List ℕ). told_of a.rec.now c.event-n.result (sent_length a.out.now c.event-n.result.send (command_in u a.i)) c.none.result) v
-        ∙ f.2;
+          c.finish.ensures.rec_after
+          ∙ ap (λ (u : List ℕ). told_of a.rec.now c.event-n.result (sent_length a.out.now c.event-n.result.send (command_in u a.i)) c.none.result) v
+          ∙ f.2;
     }

@@ -1,4 +1,3 @@
-use borrow.Author.Rules.{rules}
 use borrow.Author.Tests.{le-ltb, lt-ltb}
 use Rattle.atr.specs.Rates.{d_offered}
 use Rattle.atr.proofs.rates.d_offered.Goals as goal

@@ -1,4 +1,3 @@
-use borrow.Author.Rules.{rules}
 use borrow.Author.Tests.{le-ltb, lt-ltb}
 use Rattle.atr.specs.Rates.{f_offered}
 use Rattle.atr.proofs.rates.f_offered.Goals as goal

@@ -1,6 +1,5 @@
 use mathlib.Core.Path.{sym, ◌∙◌}
 use Rattle.atr.specs.Answer.{terms_of}
-use borrow.Author.Rules.{rules}
 use Rattle.atr.proofs.reader.on_terms.Goals as goal
 
 pub returns-then-is_not_t1 : goal.returns-then-is_not_t1

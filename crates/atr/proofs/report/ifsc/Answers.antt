@@ -1,6 +1,5 @@
 use borrow.Author.Tests.{lt-ltb, le-ltb}
 use Rattle.atr.specs.Report.{ifsc_of}
-use borrow.Author.Rules.{rules}
 use Rattle.atr.proofs.report.ifsc.Goals as goal
 
 pub returns-then-ta3-ge-ABSENT : goal.returns-then-ta3-ge-ABSENT

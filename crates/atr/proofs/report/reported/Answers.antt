@@ -1,4 +1,3 @@
-use borrow.Author.Rules.{rules}
 use Rattle.atr.specs.Report.{report_of}
 use Rattle.atr.proofs.report.reported.Goals as goal
 

@@ -1,6 +1,5 @@
 use mathlib.Core.Path.{sym, ◌∙◌}
 use Rattle.atr.specs.Rules.{not_t1}
-use borrow.Author.Rules.{rules}
 use Rattle.atr.proofs.rules.is_not_t1.Goals as goal
 
 pub returns-then-is_td1_wrong : goal.returns-then-is_td1_wrong

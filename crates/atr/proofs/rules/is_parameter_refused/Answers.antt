@@ -1,6 +1,5 @@
 use mathlib.Core.Path.{sym, ◌∙◌}
 use Rattle.atr.specs.Rules.{parameter_refused}
-use borrow.Author.Rules.{rules}
 use Rattle.atr.proofs.rules.is_parameter_refused.Goals as goal
 
 pub returns-then-is_speed_refused : goal.returns-then-is_speed_refused

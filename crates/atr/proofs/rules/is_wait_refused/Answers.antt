@@ -1,6 +1,5 @@
 use borrow.Author.Tests.{lt-ltb, le-ltb}
 use Rattle.atr.specs.Rules.{wait_refused}
-use borrow.Author.Rules.{rules}
 use native.Mathlib.Omega.{arith}
 use Prim.Native.Nat.{◌/◌, ◌%◌}
 use mathlib.Core.Bool.{or-true}

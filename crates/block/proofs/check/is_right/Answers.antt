@@ -2,7 +2,6 @@ use mathlib.Core.Path.{ap}
 use Prim.Native.Nat.{ℕ}
 use lib.Dec.{eqb}
 use Rattle.block.specs.Check.{check_right}
-use borrow.Author.Rules.{rules}
 use Rattle.block.proofs.check.is_right.Goals as goal
 
 pub returns : goal.returns

@@ -1,9 +1,5 @@
-use Prim.Native.Nat.{◌-◌}
-use mathlib.Core.Path.{◌≡◌, sym, ◌∙◌}
+use mathlib.Core.Path.{sym, ◌∙◌}
 use native.Mathlib.Omega.{arith}
-use lib.ListN.{length, drop}
-use lib.Bits.{bit_xor, xor_zero_l}
-use Rattle.block.specs.Lrc.{lrc_of}
 use Rattle.block.proofs.LrcLaws.{lrc_turn, lrc_end}
 use Rattle.block.proofs.check.lrc.Goals as goal
 

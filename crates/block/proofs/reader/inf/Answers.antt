@@ -1,7 +1,6 @@
 use mathlib.Core.Path.{sym, ◌∙◌}
 use Rattle.lent.proofs.PlaceLaws.{window_none}
 use Rattle.block.specs.Event.{inf_of}
-use borrow.Author.Rules.{rules}
 use Rattle.block.proofs.reader.inf.Goals as goal
 
 pub returns-then-is_well : goal.returns-then-is_well

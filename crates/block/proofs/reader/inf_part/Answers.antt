@@ -4,7 +4,6 @@ use native.Mathlib.Omega.{arith}
 use lib.ListN.{length}
 use Rattle.lent.specs.Place.{window}
 use Rattle.block.specs.Block.{inf_part, inf_at, frame}
-use borrow.Author.Rules.{rules}
 use Rattle.block.proofs.reader.inf_part.Goals as goal
 
 pub returns-then-s-lt-FRAME : goal.returns-then-s-lt-FRAME

@@ -2,7 +2,6 @@ use borrow.Author.Tests.{lt-leb, le-leb, eq-eqb, ne_eqb}
 use mathlib.Core.Path.{sym, ap, ◌∙◌}
 use Prim.Native.Nat.{ℕ, ◌+◌}
 use Rattle.block.specs.Reader.{whole}
-use borrow.Author.Rules.{rules}
 use Rattle.block.proofs.reader.is_whole.Goals as goal
 
 pub returns-then-s-lt-FRAME : goal.returns-then-s-lt-FRAME

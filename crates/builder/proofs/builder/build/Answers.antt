@@ -2,7 +2,6 @@ use Prim.Native.Nat.{◌+◌}
 use mathlib.Core.Path.{sym, ◌∙◌}
 use native.Mathlib.Omega.{arith}
 use lib.ListN.{length}
-use borrow.Author.Rules.{rules}
 use borrow.Author.Tests.{lt-leb, le-leb}
 use Rattle.block.specs.Block.{frame}
 use Rattle.block.specs.Builder.{built_length, built_out}

@@ -6,7 +6,6 @@ use Rattle.lent.specs.Place.{window, splice}
 use Rattle.block.specs.Check.{check_of}
 use Rattle.block.specs.Block.{inf_at}
 use Rattle.block.proofs.BuilderLaws.{written}
-use borrow.Author.Rules.{rules}
 use Rattle.builder.proofs.builder.write.Goals as goal
 
 pub returns : goal.returns

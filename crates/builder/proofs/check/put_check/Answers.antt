@@ -4,7 +4,6 @@ use Prim.Native.Nat.{ℕ}
 use Rattle.lent.specs.Place.{splice}
 use Rattle.block.specs.Lrc.{lrc_of}
 use Rattle.block.specs.Check.{check_of}
-use borrow.Author.Rules.{rules}
 use Rattle.builder.proofs.check.put_check.Goals as goal
 
 pub returns : goal.returns

@@ -6,7 +6,6 @@ use lib.ListN.{length}
 use borrow.Author.Tests.{leb-true, leb-false}
 use Rattle.lent.specs.Number.{number_at}
 use Rattle.lent.proofs.NumberLaws.{number_weighed, number_out}
-use borrow.Author.Rules.{rules}
 use Rattle.numbers.proofs.number.get32.Goals as goal
 
 pub returns-then-lies_within : goal.returns-then-lies_within

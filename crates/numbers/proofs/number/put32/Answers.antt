@@ -4,7 +4,6 @@ use Prim.Native.Nat.{ℕ, ◌/◌, ◌%◌}
 use native.Mathlib.Omega.{arith}
 use Rattle.lent.specs.Place.{splice}
 use Rattle.lent.specs.Number.{bytes_of}
-use borrow.Author.Rules.{rules}
 use Rattle.numbers.proofs.number.put32.Goals as goal
 
 pub returns : goal.returns

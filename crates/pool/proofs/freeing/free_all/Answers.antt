@@ -1,12 +1,11 @@
-use Prim.Native.Nat.{◌-◌, ◌≤◌, ◌<◌, ℕ, ◌+◌, ◌*◌}
-use mathlib.Core.Path.{◌≡◌, refl, ◌∙◌, ap, ap₂}
+use Prim.Native.Nat.{◌<◌, ℕ, ◌+◌, ◌*◌}
+use mathlib.Core.Path.{refl, ◌∙◌, ap, ap₂}
 use mathlib.Core.List.{List}
 use native.Mathlib.Numerals.{add-one}
 use native.Mathlib.Omega.{arith}
-use lib.ListN.{length, length-set, set}
+use lib.ListN.{set}
 use lib.Seq.{get_or-set_other}
-use borrow.Author.Rules.{rules}
-use Rattle.region.specs.Layout.{held, cells, unowned, owners_at, lists_at, listed}
+use Rattle.region.specs.Layout.{cells, unowned, owners_at, lists_at, listed}
 use Rattle.pool.specs.Calls.{freed}
 use Rattle.pool.proofs.freeing.free_all.Goals as goal
 

@@ -1,5 +1,4 @@
 use mathlib.Core.Path.{sym, ◌∙◌}
-use borrow.Author.Rules.{rules}
 use Rattle.pool.specs.Calls.{released}
 use Rattle.region.proofs.HolderLaws.{inside_facts}
 use Rattle.pool.proofs.freeing.release.Goals as goal

@@ -2,7 +2,6 @@ use Prim.Native.Nat.{◌-◌}
 use mathlib.Core.Path.{◌≡◌}
 use native.Mathlib.Omega.{arith}
 use lib.ListN.{replicate}
-use borrow.Author.Rules.{rules}
 use Rattle.region.specs.Layout.{holders, cells, unowned, shares_at, ceilings_at, held_at, owners_at, places_at, size}
 use Rattle.lent.specs.Place.{splice}
 use Rattle.pool.proofs.FreshLaws.{fresh_steps}

@@ -1,14 +1,6 @@
-use mathlib.Core.Path.{◌≡◌, sym, ◌∙◌}
-use mathlib.Core.Bool.{true}
-use lib.Dec.{ltb}
-use lib.ListN.{length}
-use borrow.Author.Rules.{rules}
-use borrow.Author.Tests.{leb-true}
-use Rattle.region.specs.Layout.{cell_size}
-use Rattle.region.specs.Sound.{piece_size}
+use mathlib.Core.Path.{sym, ◌∙◌}
 use Rattle.pool.specs.Calls.{appended}
 use Rattle.pool.proofs.CallLaws.{appends-takes, appends-size, appended_no}
-use Rattle.lent.proofs.Cases.{and_right}
 use Rattle.pool.proofs.storing.append.Goals as goal
 
 pub returns-then-is_piece_size : goal.returns-then-is_piece_size

@@ -1,13 +1,10 @@
-use Prim.Native.Nat.{ℕ, ◌-◌, ◌≤◌, ◌<◌}
 use mathlib.Core.Path.{◌≡◌, sym, ◌∙◌}
-use mathlib.Core.Bool.{false}
 use native.Mathlib.Omega.{arith}
 use lib.Dec.{eqb}
-use borrow.Author.Tests.{eq-eqb, ne_eqb}
+use borrow.Author.Tests.{eq-eqb}
 use Rattle.region.specs.Layout.{cells, unowned, owner}
 use Rattle.pool.specs.Calls.{lowest}
 use Rattle.lent.proofs.FoldLaws.{first_is, first_none}
-use Rattle.lent.proofs.Cases.{eq_or_ne}
 use Rattle.pool.proofs.storing.lowest_free.Goals as goal
 
 pub returns-then-r-c : goal.returns-then-r-c

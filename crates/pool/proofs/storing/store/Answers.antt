@@ -1,6 +1,3 @@
-use native.Mathlib.Omega.{arith}
-use lib.ListN.{length-set}
-use borrow.Author.Rules.{rules}
 use Rattle.pool.specs.Calls.{stored}
 use Rattle.pool.proofs.storing.store.Goals as goal
 

@@ -1,7 +1,6 @@
 use Prim.Native.Nat.{ℕ, ◌+◌}
 use mathlib.Core.Path.{◌≡◌, sym, ap, ◌∙◌}
 use native.Mathlib.Omega.{arith}
-use borrow.Author.Rules.{rules}
 use Rattle.region.specs.Layout.{shares_at, ceilings_at, held}
 use Rattle.pool.specs.Calls.{lowest, stored}
 use Rattle.pool.proofs.CallLaws.{takes_yes, takes-full, takes_no}

@@ -9,7 +9,6 @@ use Rattle.atr.proofs.AnswerLaws.{answer-told}
 use Rattle.call.proofs.RefusalLaws.{attach_tried, or_else}
 use Rattle.greeting.specs.Greeting.{attached}
 use mathlib.Core.Path.{◌∙◌, ◌≡◌, ap, refl, subst, sym}
-use borrow.Author.Rules.{rules}
 use Prim.Native.Nat.{ℕ}
 use native.Mathlib.Omega.{arith}
 use lib.ListN.{length}

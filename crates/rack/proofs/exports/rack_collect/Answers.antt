@@ -5,7 +5,6 @@ use Rattle.call.proofs.NoneLaws.{none_sound}
 use Rattle.leaving.specs.Leave.{collected_in}
 use Rattle.pool.specs.Calls.{response}
 use mathlib.Core.Path.{◌∙◌, ◌≡◌, refl, sym}
-use borrow.Author.Rules.{rules}
 use lib.ListN.{length}
 use Rattle.call.proofs.AnswerLaws as call
 use Rattle.leaving.proofs.LeaveLaws as left

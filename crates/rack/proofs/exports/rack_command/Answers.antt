@@ -4,7 +4,6 @@ use Rattle.slot.specs.Blocks.{sent_length}
 use Rattle.entry.specs.Entry.{line_in}
 use Rattle.turn.specs.Calls.{commanded}
 use mathlib.Core.Path.{◌∙◌, refl, sym}
-use borrow.Author.Rules.{rules}
 use Rattle.call.proofs.AnswerLaws as call
 use Rattle.rack.proofs.exports.rack_command.Goals as goal
 

@@ -6,7 +6,6 @@ use Rattle.call.proofs.NoneLaws.{none_sound}
 use Rattle.call.proofs.EventLaws.{event-refusal}
 use Rattle.hearing.specs.Event.{event_in, event_pool}
 use mathlib.Core.Path.{◌∙◌, ◌≡◌, refl, sym}
-use borrow.Author.Rules.{rules}
 use lib.ListN.{length}
 use Rattle.call.proofs.AnswerLaws as call
 use Rattle.hearing.proofs.PartLaws as heard

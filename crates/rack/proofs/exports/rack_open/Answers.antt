@@ -1,6 +1,5 @@
 use mathlib.Core.Path.{◌∙◌, sym}
 use Rattle.call.proofs.OpenLaws.{open_given, open_refused}
-use borrow.Author.Rules.{rules}
 use Rattle.rack.proofs.exports.rack_open.Goals as goal
 
 pub returns-then-number-ne0 : goal.returns-then-number-ne0

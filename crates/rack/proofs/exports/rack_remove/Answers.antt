@@ -2,7 +2,6 @@ use Rattle.call.specs.Call.{refusal_of, removing}
 use Rattle.table.proofs.SoundLaws.{sound_long}
 use Rattle.call.proofs.NoneLaws.{none_sound}
 use mathlib.Core.Path.{◌∙◌, ◌≡◌, sym}
-use borrow.Author.Rules.{rules}
 use Rattle.call.proofs.AnswerLaws as call
 use Rattle.leaving.proofs.LeaveLaws as left
 use Rattle.rack.proofs.exports.rack_remove.Goals as goal

@@ -2,10 +2,9 @@ use Rattle.call.specs.Open.{open_refusal}
 use Rattle.table.specs.Layout.{table_size}
 use Rattle.shares.specs.Pool.{fit}
 use Rattle.region.specs.Layout.{pool_of}
-use borrow.Author.Rules.{rules}
 use mathlib.Core.Path.{◌∙◌, ◌≡◌, sym}
 use mathlib.Core.Bool.{false, true}
-use borrow.Author.Tests.{le-ltb, lt-ltb, not-false, not-true}
+use borrow.Author.Tests.{le-ltb, lt-ltb}
 use Rattle.rack.proofs.opening.open.Goals as goal
 
 pub returns-then-table-lt-TABLE : goal.returns-then-table-lt-TABLE

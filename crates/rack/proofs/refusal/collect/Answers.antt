@@ -3,7 +3,6 @@ use Rattle.table.specs.Layout.{pool_in}
 use Rattle.call.proofs.RefusalLaws.{collect-short, or_none, tried}
 use Rattle.session.specs.Call.{collect}
 use Rattle.pool.specs.Calls.{response}
-use borrow.Author.Rules.{rules}
 use mathlib.Core.Path.{◌∙◌, ◌≡◌, ap, ap₂, sym}
 use mathlib.Core.Bool.{Bool, ◌||◌, not}
 use mathlib.Core.List.{List}

@@ -4,7 +4,6 @@ use Rattle.entry.specs.Entry.{state_in}
 use Rattle.call.proofs.RefusalLaws.{or_else, tried}
 use Rattle.session.specs.Call.{command}
 use Rattle.session.specs.Refusal.{good_form}
-use borrow.Author.Rules.{rules}
 use mathlib.Core.Path.{◌∙◌, ◌≡◌, ap, ap₂, refl, sym}
 use mathlib.Core.Bool.{Bool, ◌||◌, cond, not}
 use Prim.Native.Nat.{ℕ}

@@ -3,7 +3,6 @@ use Rattle.table.specs.Layout.{entry_in}
 use Rattle.entry.specs.Entry.{state_in}
 use Rattle.call.proofs.RefusalLaws.{or_else, tried}
 use Rattle.session.specs.Call.{event}
-use borrow.Author.Rules.{rules}
 use mathlib.Core.Path.{◌∙◌, ◌≡◌, ap, ap₂, refl, sym}
 use mathlib.Core.Bool.{◌||◌, cond, not}
 use mathlib.Core.List.{[]}

@@ -1,8 +1,7 @@
 use Rattle.call.specs.Call.{lends, shared}
 use Rattle.call.proofs.RefusalLaws.{or_none, tried}
 use Rattle.session.specs.Call.{remove}
-use borrow.Author.Rules.{rules}
-use mathlib.Core.Path.{◌∙◌, ap, ap₂, refl, sym}
+use mathlib.Core.Path.{◌∙◌, ap₂, refl, sym}
 use mathlib.Core.Bool.{Bool, ◌||◌}
 use Prim.Native.Nat.{ℕ}
 use lib.ListN.{length}

@@ -1,5 +1,4 @@
 use mathlib.Core.Path.{sym, ◌∙◌}
-use borrow.Author.Rules.{rules}
 use Rattle.region.specs.Holding.{granted}
 use Rattle.region.proofs.HolderLaws.{inside_facts}
 use Rattle.region.proofs.holding.granted.Goals as goal

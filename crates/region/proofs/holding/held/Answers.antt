@@ -1,6 +1,5 @@
 use mathlib.Core.Path.{sym, ◌∙◌}
 use native.Mathlib.Omega.{arith}
-use borrow.Author.Rules.{rules}
 use Rattle.region.specs.Holding.{held_by}
 use Rattle.region.proofs.HolderLaws.{inside_facts}
 use Rattle.region.proofs.holding.held.Goals as goal

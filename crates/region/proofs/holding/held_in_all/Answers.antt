@@ -1,10 +1,9 @@
-use Prim.Native.Nat.{◌*◌, ◌-◌, ◌≤◌, ◌+◌}
-use mathlib.Core.Path.{◌≡◌, refl, sym, ap₂, ◌∙◌}
+use Prim.Native.Nat.{◌+◌}
+use mathlib.Core.Path.{refl, sym, ap₂, ◌∙◌}
 use native.Mathlib.Omega.{arith}
-use borrow.Author.Rules.{rules}
-use Rattle.region.specs.Layout.{holders, held}
+use Rattle.region.specs.Layout.{held}
 use Rattle.lent.specs.Fold.{sum}
-use Rattle.lent.proofs.FoldLaws.{sum_next, sum_end}
+use Rattle.lent.proofs.FoldLaws.{sum_next}
 use Rattle.region.proofs.holding.held_in_all.Goals as goal
 
 pub loop-j-init : goal.loop-j-init

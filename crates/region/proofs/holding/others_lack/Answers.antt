@@ -1,10 +1,10 @@
-use Prim.Native.Nat.{◌*◌, ◌-◌, ◌≤◌, ◌+◌}
-use mathlib.Core.Path.{◌≡◌, refl, sym, ap₂, ◌∙◌}
+use Prim.Native.Nat.{◌+◌}
+use mathlib.Core.Path.{refl, sym, ap₂, ◌∙◌}
 use native.Mathlib.Omega.{arith}
-use Rattle.region.specs.Layout.{holders, held, pool_in}
+use Rattle.region.specs.Layout.{held, pool_in}
 use Rattle.shares.specs.Pool.{lack, others}
 use Rattle.lent.specs.Fold.{sum}
-use Rattle.lent.proofs.FoldLaws.{sum_next, sum_end}
+use Rattle.lent.proofs.FoldLaws.{sum_next}
 use Rattle.region.proofs.holding.others_lack.Goals as goal
 
 pub loop-k-init : goal.loop-k-init

@@ -1,6 +1,5 @@
 use mathlib.Core.Path.{sym, ◌∙◌}
 use native.Mathlib.Omega.{arith}
-use borrow.Author.Rules.{rules}
 use Rattle.region.specs.Holding.{rule_grants}
 use Rattle.shares.specs.Pool.{granted}
 use Rattle.region.proofs.LimitLaws.{share_at, ceiling_at}

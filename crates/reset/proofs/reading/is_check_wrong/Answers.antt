@@ -1,4 +1,3 @@
-use borrow.Author.Rules.{rules}
 use mathlib.Core.Path.{◌≡◌, ap, ◌∙◌}
 use Rattle.block.specs.Lrc.{lrc_of}
 use lib.ListN.{drop, length}

@@ -1,4 +1,3 @@
-use borrow.Author.Rules.{rules}
 use Rattle.atr.specs.Walk.{end_of, length_of, historical}
 use Rattle.atr.specs.Rules.{length_wrong, check_wrong}
 use Rattle.atr.specs.Answer.{answer_of, number_of, answered, terms_of}

@@ -1,4 +1,3 @@
-use borrow.Author.Rules.{rules}
 use Rattle.atr.specs.Walk.{field_at}
 use Rattle.lent.proofs.PlaceLaws.{get_or-in}
 use Rattle.atr.proofs.WalkLaws.{field_past}
@@ -12,15 +11,15 @@ use Rattle.reset.proofs.walk.field.Goals as goal
 pub returns-then-bit-ne1 : goal.returns-then-bit-ne1
 unfolding field_at
 returns-then-bit-ne1 c = record {
-      value = simp (ne_eqb _ _ c.if-bit-ne1.true);
-      upper_bound = omega arith;
-    }
+  value = simp (ne_eqb _ _ c.if-bit-ne1.true);
+  upper_bound = omega arith;
+}
 
 pub returns-then-s-p : goal.returns-then-s-p
 returns-then-s-p c = record {
-      value = sym (field_past c.args.s.now c.args.p c.args.bit c.if-s-p.true);
-      upper_bound = omega arith;
-    }
+  value = sym (field_past c.args.s.now c.args.p c.args.bit c.if-s-p.true);
+  upper_bound = omega arith;
+}
 
 pub returns : goal.returns
 unfolding field_at

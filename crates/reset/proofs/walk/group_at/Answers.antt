@@ -1,4 +1,3 @@
-use borrow.Author.Rules.{rules}
 use Rattle.atr.proofs.WalkLaws.{group_at, group_then}
 use mathlib.Core.Path.{sym}
 use Rattle.reset.proofs.walk.group_at.Goals as goal

@@ -2,8 +2,7 @@ use Rattle.atr.proofs.WalkLaws.{next_group}
 use Rattle.atr.specs.Walk.{walk_of, walk_from, behind}
 use mathlib.Core.Path.{◌≡◌, refl, ap, ap₂, ◌∙◌}
 use native.Mathlib.Omega.{arith}
-use Prim.Native.Nat.{ℕ, suc, ◌+◌, ◌-◌, ◌*◌, ◌≤◌}
-use borrow.Author.Rules.{rules}
+use Prim.Native.Nat.{ℕ, suc, ◌+◌, ◌-◌}
 use Rattle.reset.proofs.walk.group_behind.Goals as goal
 
 pub loop-i-init : goal.loop-i-init

@@ -1,4 +1,3 @@
-use borrow.Author.Rules.{rules}
 use Rattle.atr.specs.Walk.{interface_of}
 use Rattle.reset.proofs.walk.interface_bytes.Goals as goal
 

@@ -2,9 +2,7 @@ use Rattle.atr.specs.Walk.{walk_of, walk_from, some_other, other_than0, end_of}
 use mathlib.Core.Path.{◌≡◌, sym, ap, ap₂, ◌∙◌}
 use mathlib.Core.Bool.{Bool, ◌||◌, or-false, or_assoc}
 use native.Mathlib.Omega.{arith}
-use lib.ListN.{length}
-use Prim.Native.Nat.{ℕ, ◌+◌, ◌-◌, ◌*◌, ◌/◌, ◌≤◌}
-use borrow.Author.Rules.{rules}
+use Prim.Native.Nat.{ℕ, ◌+◌}
 use Rattle.atr.proofs.WalkLaws.{Moved, moved, over_size, over_other}
 use Rattle.reset.proofs.walk.to_end.Goals as goal
 

@@ -1,7 +1,6 @@
 use Prim.Native.Nat.{◌+◌, ◌*◌}
 use mathlib.Core.Path.{sym, ap, ◌∙◌}
 use native.Mathlib.Omega.{arith}
-use borrow.Author.Rules.{rules}
 use Rattle.region.specs.Layout.{cell_size, cells_at}
 use Rattle.pool.proofs.ResponseLaws.{bytes-piece, bytes_far, bytes_long}
 use Rattle.lent.proofs.PlaceLaws.{window_none}

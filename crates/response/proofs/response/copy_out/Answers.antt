@@ -3,7 +3,6 @@ use mathlib.Core.Path.{◌≡◌, sym, ap, ◌∙◌}
 use mathlib.Core.List.{List}
 use native.Mathlib.Omega.{arith}
 use lib.ListN.{length}
-use borrow.Author.Rules.{rules}
 use borrow.Author.Tests.{lt-leb, le-leb}
 use Rattle.region.specs.Layout.{held}
 use Rattle.pool.specs.Calls.{joined, copied}

@@ -1,8 +1,7 @@
-use Prim.Native.Nat.{◌+◌, ◌-◌, ◌≤◌, ◌<◌}
+use Prim.Native.Nat.{◌+◌, ◌≤◌}
 use mathlib.Core.Path.{◌≡◌, refl, sym, ap, ◌∙◌}
 use native.Mathlib.Omega.{arith}
 use lib.ListN.{length}
-use borrow.Author.Rules.{rules}
 use Rattle.region.specs.Layout.{held, listed}
 use Rattle.pool.specs.Calls.{bytes_in, joined}
 use Rattle.pool.proofs.ResponseLaws.{length_step, room, turn}

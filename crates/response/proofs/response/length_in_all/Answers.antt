@@ -1,9 +1,6 @@
-use Prim.Native.Nat.{◌*◌, ◌-◌, ◌≤◌, ◌<◌}
-use mathlib.Core.Path.{◌≡◌, refl, ap}
+use mathlib.Core.Path.{refl, ap}
 use native.Mathlib.Omega.{arith}
 use lib.ListN.{length}
-use borrow.Author.Rules.{rules}
-use Rattle.region.specs.Layout.{cell_size, held}
 use Rattle.pool.specs.Calls.{joined}
 use Rattle.pool.proofs.ResponseLaws.{length_step}
 use Rattle.response.proofs.response.length_in_all.Goals as goal

@@ -1,7 +1,6 @@
 use mathlib.Core.Path.{◌≡◌, ap, ◌∙◌}
 use native.Mathlib.Omega.{arith}
 use lib.ListN.{length}
-use borrow.Author.Rules.{rules}
 use Rattle.region.specs.Layout.{listed}
 use Rattle.pool.specs.Calls.{bytes_in}
 use Rattle.pool.proofs.ResponseLaws.{bytes-short}

@@ -1,6 +1,5 @@
 use mathlib.Core.Path.{sym, ap, ◌∙◌}
 use lib.ListN.{length}
-use borrow.Author.Rules.{rules}
 use Rattle.region.proofs.HolderLaws.{inside_facts}
 use Rattle.pool.proofs.CallLaws.{response_in, response_out}
 use Rattle.response.proofs.response.response_length.Goals as goal

@@ -1,12 +1,10 @@
-use Prim.Native.Nat.{◌-◌, ◌≤◌}
 use mathlib.Core.Path.{◌≡◌, refl, sym, ◌∙◌}
 use mathlib.Core.Bool.{true, false}
 use native.Mathlib.Omega.{arith}
-use borrow.Author.Tests.{not-true, not-false}
 use Rattle.region.specs.Layout.{holders}
 use Rattle.region.specs.Sound.{list_well}
 use Rattle.lent.specs.Fold.{all}
-use Rattle.lent.proofs.FoldLaws.{all_next, all_fails, all_end}
+use Rattle.lent.proofs.FoldLaws.{all_next, all_fails}
 use Rattle.sound.proofs.sound.are_lists.Goals as goal
 
 pub loop-i-init : goal.loop-i-init

@@ -2,7 +2,6 @@ use mathlib.Core.Path.{ap₂, ◌∙◌}
 use lib.Dec.{eqb}
 use lib.ListN.{length}
 use borrow.Author.Tests.{le-leb}
-use borrow.Author.Rules.{rules}
 use Rattle.region.specs.Layout.{size}
 use Rattle.region.specs.Holding.{free_cells}
 use Rattle.region.specs.Sound.{counted}

@@ -1,5 +1,4 @@
 use mathlib.Core.Path.{ap, ◌∙◌}
-use borrow.Author.Rules.{rules}
 use Rattle.region.specs.Sound.{is_piece, listed_well}
 use Rattle.sound.proofs.sound.is_listed.Goals as goal
 

@@ -1,6 +1,4 @@
 use mathlib.Core.Path.{sym, ◌∙◌}
-use borrow.Author.Rules.{rules}
-use borrow.Author.Tests.{not-true, not-false}
 use Rattle.region.specs.Sound.{sound_in}
 use Rattle.sound.proofs.sound.is_sound_in.Goals as goal
 

@@ -1,11 +1,9 @@
-use Prim.Native.Nat.{◌+◌, ◌-◌, ◌≤◌}
-use mathlib.Core.Path.{◌≡◌, refl, sym, ap₂, ◌∙◌}
+use Prim.Native.Nat.{◌+◌}
+use mathlib.Core.Path.{refl, sym, ap₂, ◌∙◌}
 use native.Mathlib.Omega.{arith}
-use borrow.Author.Rules.{rules}
-use Rattle.region.specs.Layout.{cells}
 use Rattle.region.specs.Sound.{free_at}
 use Rattle.lent.specs.Fold.{sum}
-use Rattle.lent.proofs.FoldLaws.{sum_next, sum_end}
+use Rattle.lent.proofs.FoldLaws.{sum_next}
 use Rattle.sound.proofs.sound.unowned_in_all.Goals as goal
 
 pub loop-c-init : goal.loop-c-init

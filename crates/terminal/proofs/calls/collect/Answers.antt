@@ -1,4 +1,3 @@
-use borrow.Author.Rules.{rules}
 use Rattle.terminal.specs.Calls.{collected, collected_pool}
 use Rattle.lent.specs.Place.{within}
 use Rattle.pool.specs.Calls.{response}

@@ -1,4 +1,3 @@
-use borrow.Author.Rules.{rules}
 use Rattle.terminal.specs.Calls.{due_of, stored_in, settled_pool, event_of, pool_of}
 use Rattle.slot.specs.declared.parts.Next.{Next}
 use Rattle.taking.specs.Calls.{asks_cell}

@@ -1,4 +1,3 @@
-use borrow.Author.Rules.{rules}
 use Rattle.terminal.specs.Calls.{greeted}
 use Rattle.greeting.specs.Greeting.{while_greeting}
 use mathlib.Core.Path.{ap, ◌∙◌}

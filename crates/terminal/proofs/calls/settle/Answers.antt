@@ -1,4 +1,3 @@
-use borrow.Author.Rules.{rules}
 use Rattle.terminal.specs.Calls.{settled_pool}
 use mathlib.Core.Path.{sym, ◌∙◌}
 use borrow.Author.Tests.{eq-eqb, ne_eqb}

@@ -1,4 +1,3 @@
-use borrow.Author.Rules.{rules}
 use Rattle.terminal.specs.Calls.{due_of}
 use Rattle.taking.specs.Calls.{taken}
 use Rattle.pool.specs.Calls.{appended, response}

@@ -7,9 +7,9 @@ use Rattle.wire.proofs.building.send.Goals as goal
 pub returns-in-Nothing : goal.returns-in-Nothing
 unfolding sent_length sent_out
 returns-in-Nothing c = record {
-      value = sym (rw c.in-Nothing.is);
-      out_after = sym (rw c.in-Nothing.is);
-    }
+  value = sym (rw c.in-Nothing.is);
+  out_after = sym (rw c.in-Nothing.is);
+}
 
 pub returns-in-I : goal.returns-in-I
 unfolding sent_length sent_out
@@ -30,6 +30,6 @@ returns-in-R c =
 pub returns-in-S : goal.returns-in-S
 unfolding sent_length sent_out
 returns-in-S c = record {
-      value = c.build-in-S.ensures.value ∙ sym (rw c.in-S.is);
-      out_after = c.build-in-S.ensures.out_after ∙ sym (rw c.in-S.is);
-    }
+  value = c.build-in-S.ensures.value ∙ sym (rw c.in-S.is);
+  out_after = c.build-in-S.ensures.out_after ∙ sym (rw c.in-S.is);
+}
