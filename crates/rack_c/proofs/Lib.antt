@@ -1,0 +1,2 @@
+-- That each export's promise settles all that it gives.
+pub mod Settled
