@@ -1,14 +1,17 @@
 -- Laws of numbers as bytes, over the width: what was written is read, here and elsewhere. Assumes nothing.
 use mathlib.Core.Path.{◌≡◌, refl, sym, ap, ap₂, ◌∙◌}
-use mathlib.Core.List.{List}
+use mathlib.Core.List.{List, [], ◌∷◌}
 use Prim.Native.Nat.{ℕ, zero, suc, ◌+◌, ◌*◌, ◌/◌, ◌%◌, ◌^◌, ◌≤◌, ◌<◌}
 use native.Mathlib.Nat.{pow-suc, mod-eq_of_lt, div-add-mod', one-le-pow, mod-lt, mod-one, add-mul, mul_assoc, mul_comm, mul-le-mul_right, add-mul-mod_self_right}
 use native.Mathlib.Omega.{arith}
-use lib.ListN.{length, get_or}
+use lib.ListN.{length, get_or, take, drop, length-drop, length-take}
+use Rattle.std.specs.Prelude.{min, ◌-◌}
 use borrow.Author.Tests.{le-leb, lt-leb}
 use Rattle.lent.specs.Place.{window, splice}
+use Rattle.lent.proofs.Cases.{le_or_lt}
 use Rattle.lent.specs.Number.{number_of, bytes_of, number_at}
-use Rattle.lent.proofs.PlaceLaws.{length-window, window_none, window-cons, length-splice, window_same, window_before, window_after}
+use Rattle.std.specs.Int.{bytes_high_first, byte_at}
+use Rattle.lent.proofs.PlaceLaws.{window_whole, length-window, window_none, window-cons, length-splice, window_same, window_before, window_after, byte_inside}
 
 pub length-bytes : (n v : ℕ) → length (bytes_of n v) ≡ n
 unfolding bytes_of
@@ -87,3 +90,39 @@ module _ (t : List ℕ) (a : ℕ) (xs : List ℕ) (b n : ℕ) where
   pub number_after : a + length xs ≤ b → number_at (splice t a xs) b n ≡ number_at t b n
   unfolding number_at
   number_after h = rw (length-splice t a xs, window_after t a xs b n h)
+
+-- a byte that was written is read
+pub byte_same : (t : List ℕ) (a v : ℕ) → a + 1 ≤ length t → get_or (splice t a (v ∷ [])) a 0 ≡ v
+byte_same t a v h =
+    let e : a ≡ a + 0 = omega arith in
+    ap (λ (p : ℕ). get_or (splice t a (v ∷ [])) p 0) e ∙ byte_inside t a (v ∷ []) 0 h (omega arith)
+
+-- ---- a part of n bytes as a number, and the library's bytes of a number
+
+-- as many bytes as were asked for are found at a only where they lie within
+pub part_long : (t : List ℕ) (a n : ℕ) (w : List ℕ) → w ≡ window t a n → n ≤ length w → 0 < n → a + n ≤ length t
+unfolding window
+part_long t a n w e l h =
+    let d : length (drop a t) ≡ length t - a = length-drop a t in
+    let f : length w ≡ min n (length (drop a t)) = ap length e ∙ length-take n (drop a t) in
+    grind (arith, d, f)
+
+-- n bytes that were found at a make the number there
+pub part_number : (t : List ℕ) (a n : ℕ) (w : List ℕ) → w ≡ window t a n → n ≤ length w → a + n ≤ length t
+  → number_at t a n ≡ weighed w 0 0 n
+part_number t a n w e l h =
+    let f : length w ≡ n = ap length e ∙ length-window t a n h in
+    let whole : window w 0 n ≡ w = ap (window w 0) (sym f) ∙ window_whole w in
+    let front : number_at w 0 n ≡ weighed w 0 0 n = number_weighed w 0 0 n (omega arith) in
+    number_in_lem t a n h ∙ ap number_of (sym e ∙ sym whole) ∙ sym (number_in_lem w 0 n (omega arith)) ∙ front
+
+pub bytes_high : (n v : ℕ) → bytes_high_first n v ≡ bytes_of n v
+unfolding bytes_of
+bytes_high zero v = refl
+bytes_high (suc zero) v = let e : v % 256 ≡ v / 1 % 256 = omega arith in ap (λ (b : ℕ). b ∷ []) e
+bytes_high (suc (suc n)) v = ap (λ (bs : List ℕ). byte_at (suc n) v ∷ bs) (bytes_high (suc n) v)
+
+-- where another count of bytes was found at a, no n bytes lie there
+pub part_not : (t : List ℕ) (a n : ℕ) (w : List ℕ) → w ≡ window t a n → (length w ≡ n → ⊥) → number_at t a n ≡ 0
+part_not t a n w e f =
+    le_or_lt (a + n) (length t) (λ h. elim (f (ap length e ∙ length-window t a n h)) [ ]) (number_out t a n)

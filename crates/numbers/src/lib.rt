@@ -3,4 +3,4 @@
 
 mod number;
 
-pub use number::{get8, get16, get32, put8, put16, put32, wide};
+pub use number::{Number, wide};

@@ -1,0 +1,2 @@
+-- What numbers of any width keep.
+pub mod Laws
