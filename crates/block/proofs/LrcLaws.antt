@@ -3,11 +3,11 @@ use mathlib.Core.Path.{◌≡◌, sym, ap, ◌∙◌}
 use mathlib.Core.List.{List, [], ◌∷◌, ◌++◌}
 use Prim.Native.Nat.{ℕ, suc, ◌+◌, ◌<◌, ◌≤◌}
 use native.Mathlib.Numerals.{add-one}
-use lib.Bits.{bit_xor, xor_zero_l, xor_zero_r, xor_self}
+use lib.Bits.{bit_xor, xor_zero_l, xor_zero_r, xor_self, xor_assoc}
 use lib.ListN.{length, get_or, drop, drop_of_length-le}
 use lib.Seq.{drop-cons}
+use Rattle.std.specs.List.{fold}
 use Rattle.block.specs.Lrc.{lrc_of}
-use Rattle.block.proofs.Xor.{xor_assoc}
 
 pub lrc_append : (a b : List ℕ) → lrc_of (a ++ b) ≡ bit_xor (lrc_of a) (lrc_of b)
 unfolding lrc_of
@@ -33,6 +33,12 @@ lrc_only a x h =
     ∙ xor_assoc (lrc_of a) (lrc_of a) x
     ∙ ap (bit_xor (lrc_of a)) (sym (lrc_snoc a x) ∙ h)
     ∙ xor_zero_r (lrc_of a)
+
+-- the bytes taken in turn, from x on
+pub lrc_fold : (x : ℕ) (s : List ℕ) → fold bit_xor x s ≡ bit_xor x (lrc_of s)
+unfolding lrc_of
+lrc_fold x [] = sym (xor_zero_r x)
+lrc_fold x (y ∷ s) = lrc_fold (bit_xor x y) s ∙ xor_assoc x y (lrc_of s)
 
 -- one turn: the byte at i goes from what is left to what is done
 pub lrc_turn : (s : List ℕ) (x i : ℕ) → i < length s

@@ -10,16 +10,11 @@ pub(crate) const CHECK: usize = 1;
 pub fn lrc(s: &[u8]) -> u8
     ensures { result ≡ lrc_of s.now }
 {
-    let mut x: u8 = 0;
-    let mut i = 0;
-    while i < s.len() {
-        x = x ^ s[i];
-        i += 1;
-    }
-    x
+    s.iter().fold(0, |x, b| x ^ b)
 }
 
 // Whether a block ends in the check of what stands before it.
+#[tactic(auto, unfolding(crate::specs::Check::check_right))]
 pub(crate) fn is_right(block: &[u8]) -> bool
     ensures { result ≡ check_right block.now }
 {

@@ -1,9 +1,9 @@
 // What an event is, and how a PCB with its LEN and INF sorts into one.
 ghost use Rattle.std.specs.Prelude.{◌≡◌};
-ghost use Rattle.block.specs.Event.{named_of, between, one_byte, in_range, sort_of, well_of};
+ghost use Rattle.block.specs.Event.{named_of, in_range, sort_of, well_of};
 
 // What an event is: a block that reads well, or one of the two faults.
-#[derive(Clone, Copy)]
+#[derive(Clone, Copy, Debug, PartialEq, Eq)]
 pub enum Event {
     I { number: u8, more: bool },
     R { number: u8 },
@@ -16,33 +16,19 @@ pub enum Event {
 }
 
 // The block that a PCB names, v being the first byte of its INF: 14 codes, and the other 242 name none.
+// Of an I-block b7 is the number and b6 says that more is to come; of an R-block b5 is the number.
 #[tactic(auto, unfolding(crate::specs::Event::named_of))]
 fn named(pcb: u8, v: u8) -> Event
     ensures { result ≡ named_of pcb v }
 {
     match pcb {
-        0x00 => Event::I {
-            number: 0,
-            more: false,
+        0x00 | 0x20 | 0x40 | 0x60 => Event::I {
+            number: pcb >> 6,
+            more: pcb & 0x20 != 0,
         },
-        0x20 => Event::I {
-            number: 0,
-            more: true,
+        0x80..=0x82 | 0x90..=0x92 => Event::R {
+            number: pcb >> 4 & 1,
         },
-        0x40 => Event::I {
-            number: 1,
-            more: false,
-        },
-        0x60 => Event::I {
-            number: 1,
-            more: true,
-        },
-        0x80 => Event::R { number: 0 },
-        0x81 => Event::R { number: 0 },
-        0x82 => Event::R { number: 0 },
-        0x90 => Event::R { number: 1 },
-        0x91 => Event::R { number: 1 },
-        0x92 => Event::R { number: 1 },
         0xC1 => Event::IfsRequest { size: v },
         0xE1 => Event::IfsResponse { size: v },
         0xC2 => Event::Abort,
@@ -51,39 +37,16 @@ fn named(pcb: u8, v: u8) -> Event
     }
 }
 
-// Whether n lies in a range, its ends included.
-fn is_between(low: usize, n: usize, high: usize) -> bool
-    ensures { result ≡ between low n high }
-{
-    if n < low {
-        return false;
-    }
-    n <= high
-}
-
-// Whether INF is one byte of a range.
-fn is_byte(low: usize, inf: &[u8], high: usize) -> bool
-    ensures { result ≡ one_byte low inf.now high }
-{
-    if inf.len() != 1 {
-        return false;
-    }
-    is_between(low, numbers::get8(inf, 0) as usize, high)
-}
-
 // Whether LEN and INF are as that block asks.
 fn in_range(e: Event, inf: &[u8]) -> bool
     ensures { result ≡ in_range e inf.now }
 {
     match e {
-        Event::I { number: _, more: _ } => is_between(1, inf.len(), 254),
-        Event::R { number: _ } => inf.len() == 0,
-        Event::IfsRequest { size: _ } => is_byte(0x10, inf, 0xFE),
-        Event::IfsResponse { size: _ } => is_byte(0x10, inf, 0xFE),
-        Event::Abort => inf.len() == 0,
-        Event::Wtx { times: _ } => is_byte(0x01, inf, 0xFF),
-        Event::Edc => false,
-        Event::Other => false,
+        Event::I { .. } => (1..=254).contains(&inf.len()),
+        Event::R { .. } | Event::Abort => inf.is_empty(),
+        Event::IfsRequest { .. } | Event::IfsResponse { .. } => matches!(inf, [0x10..=0xFE]),
+        Event::Wtx { .. } => matches!(inf, [0x01..=0xFF]),
+        Event::Edc | Event::Other => false,
     }
 }
 
@@ -100,14 +63,5 @@ pub(crate) fn sort(pcb: u8, inf: &[u8]) -> Event
 pub(crate) fn is_well(e: Event) -> bool
     ensures { result ≡ well_of e }
 {
-    match e {
-        Event::I { number: _, more: _ } => true,
-        Event::R { number: _ } => true,
-        Event::IfsRequest { size: _ } => true,
-        Event::IfsResponse { size: _ } => true,
-        Event::Abort => true,
-        Event::Wtx { times: _ } => true,
-        Event::Edc => false,
-        Event::Other => false,
-    }
+    !matches!(e, Event::Edc | Event::Other)
 }

@@ -2,62 +2,46 @@
 ghost use Rattle.std.specs.Prelude.{◌≡◌};
 ghost use Rattle.block.specs.Block.{inf_part};
 ghost use Rattle.block.specs.Event.{inf_of};
-ghost use Rattle.block.specs.Reader.{whole, judged, bytes_of, read_of};
+ghost use Rattle.block.specs.Reader.{whole, bytes_of, read_of};
 
-use super::event::Event;
+use super::check::is_right;
+use super::event::{Event, is_well, sort};
 use super::{FRAME, INF_AT};
 
 // At least 4 bytes, length 4 + LEN, LEN at most 254.
+#[tactic(auto, unfolding(crate::specs::Reader::whole))]
 fn is_whole(s: &[u8]) -> bool
     ensures { result ≡ whole s.now }
 {
-    if s.len() < FRAME {
-        return false;
-    }
-    let len = numbers::get8(s, 2);
-    if s.len() != FRAME + (len as usize) {
-        return false;
-    }
-    len <= 254
+    s.len() >= FRAME && s.len() == FRAME + usize::from(s[2]) && s[2] <= 254
 }
 
 // The bytes from byte 3 to the check.
+#[tactic(auto, unfolding(crate::specs::Block::inf_part))]
 fn inf_part(s: &[u8]) -> &[u8]
     ensures { result.now ≡ inf_part s.now }
 {
-    if s.len() < FRAME {
-        return lent::part(s, INF_AT, 0);
-    }
-    lent::part(s, INF_AT, s.len() - FRAME)
+    lent::part(s, INF_AT, s.len().saturating_sub(FRAME))
 }
 
-// The tests behind the length, in the paper's order: the check first, then NAD, then PCB and LEN, which gave e.
-fn in_order(right: bool, ours: bool, e: Event) -> Event
-    ensures { result ≡ judged right ours e }
-{
-    if right {
-        if ours {
-            return e;
-        }
-        return Event::Other;
-    }
-    Event::Edc
-}
-
-// Bytes with good parity.
-#[tactic(auto, unfolding(crate::specs::Reader::bytes_of))]
+// Bytes with good parity: the tests behind the length in the paper's order, the check first, then NAD, then PCB and LEN.
+#[tactic(auto, unfolding(crate::specs::Reader::bytes_of, crate::specs::Reader::whole))]
 fn read_bytes(s: &[u8]) -> Event
     ensures { result ≡ bytes_of s.now }
 {
-    if is_whole(s) {
-        let ours = numbers::get8(s, 0) == 0x00;
-        let e = super::event::sort(numbers::get8(s, 1), inf_part(s));
-        return in_order(super::check::is_right(s), ours, e);
+    if !is_whole(s) {
+        Event::Other
+    } else if !is_right(s) {
+        Event::Edc
+    } else if s[0] != 0x00 {
+        Event::Other
+    } else {
+        sort(s[1], inf_part(s))
     }
-    Event::Other
 }
 
 // An event: kind 0 is bytes with good parity, 1 a parity fault, 2 silence. A kind above 2 reads as silence.
+// The kind is a number, since `read_of` says what every number reads as.
 #[tactic(auto, unfolding(crate::specs::Reader::read_of))]
 pub fn read(kind: u64, s: &[u8]) -> Event
     ensures { result ≡ read_of kind s.now }
@@ -71,11 +55,9 @@ pub fn read(kind: u64, s: &[u8]) -> Event
 
 // The INF of bytes that were read as e: for a block that reads well the part of the caller's own bytes from byte 3 to
 // the check, without copying; for every other event the empty part.
+#[tactic(auto, unfolding(crate::specs::Event::inf_of))]
 pub fn inf(e: Event, s: &[u8]) -> &[u8]
     ensures { result.now ≡ inf_of e s.now }
 {
-    if super::event::is_well(e) {
-        return inf_part(s);
-    }
-    lent::part(s, 0, 0)
+    if is_well(e) { inf_part(s) } else { &[] }
 }

@@ -1,27 +1,18 @@
 // A run of one byte at a place.
-ghost use Rattle.std.specs.Prelude.{◌≡◌, ◌+◌, ◌≤◌, length, replicate};
+ghost use Rattle.std.specs.Prelude.{◌≡◌, replicate};
 ghost use Rattle.lent.specs.Place.{within, splice};
 
-// Writes v over n bytes of t from place a.
-fn repeat(t: &mut [u8], a: usize, n: usize, v: u8)
-    requires { a + n ≤ length t.old }
-    ensures { t.new ≡ splice t.old a (replicate n v) }
-{
-    let mut j: usize = 0;
-    while j < n {
-        t[a + j] = v;
-        j += 1;
-    }
-}
+use super::place::lies_within;
 
 // Writes v over n bytes of t from place a and answers true; where they do not lie within t, t stays and the answer is false.
+#[tactic(auto, using(crate::proofs::PlaceLaws::lent_back, crate::proofs::PlaceLaws::fill_out))]
 pub fn fill(t: &mut [u8], a: usize, n: usize, v: u8) -> bool
     ensures value { result ≡ within t.old a n }
     ensures t_after { t.new ≡ splice t.old a (replicate n v) }
 {
-    if super::place::lies_within(t, a, n) {
-        repeat(t, a, n, v);
-        return true;
+    let fits = lies_within(t, a, n);
+    if fits {
+        t[a..a + n].fill(v);
     }
-    false
+    fits
 }
