@@ -2,6 +2,8 @@
 ghost use Rattle.std.specs.Prelude.{◌≡◌};
 ghost use Rattle.block.specs.Event.{named_of, in_range, sort_of, well_of};
 
+use numbers::Number;
+
 // What an event is: a block that reads well, or one of the two faults.
 #[derive(Clone, Copy, Debug, PartialEq, Eq)]
 pub enum Event {
@@ -55,7 +57,7 @@ fn in_range(e: Event, inf: &[u8]) -> bool
 pub(crate) fn sort(pcb: u8, inf: &[u8]) -> Event
     ensures { result ≡ sort_of pcb inf.now }
 {
-    let e = named(pcb, numbers::get8(inf, 0));
+    let e = named(pcb, u8::get(inf, 0));
     if in_range(e, inf) { e } else { Event::Other }
 }
 
