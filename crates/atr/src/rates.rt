@@ -2,7 +2,7 @@
 ghost use Rattle.std.specs.Prelude.{◌≡◌};
 ghost use Rattle.atr.specs.Rates.{f_offered, d_offered};
 
-use super::walk::ABSENT;
+use crate::walk::byte;
 
 // By high nibble; a reserved code is 0.
 const FS: [u16; 16] = [
@@ -12,22 +12,16 @@ const FS: [u16; 16] = [
 // By low nibble; a reserved code is 0.
 const DS: [u8; 16] = [0, 1, 2, 4, 8, 16, 32, 64, 12, 20, 0, 0, 0, 0, 0, 0];
 
+#[tactic(auto, unfolding(crate::specs::Rates::f_offered))]
 pub(crate) fn f_offered(ta1: u16) -> u16
     ensures { result ≡ f_offered ta1 }
 {
-    if ABSENT <= ta1 {
-        return 372;
-    }
-    let code = (ta1 / 16 % 16) as usize;
-    FS[code]
+    byte(ta1).map_or(372, |ta1| FS[usize::from(ta1 / 16)])
 }
 
+#[tactic(auto, unfolding(crate::specs::Rates::d_offered))]
 pub(crate) fn d_offered(ta1: u16) -> u8
     ensures { result ≡ d_offered ta1 }
 {
-    if ABSENT <= ta1 {
-        return 1;
-    }
-    let code = (ta1 % 16) as usize;
-    DS[code]
+    byte(ta1).map_or(1, |ta1| DS[usize::from(ta1 % 16)])
 }

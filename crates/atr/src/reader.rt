@@ -3,27 +3,21 @@ ghost use Rattle.std.specs.Prelude.{◌≡◌};
 ghost use Rattle.atr.specs.Report.{report_of};
 ghost use Rattle.atr.specs.Answer.{terms_of, answered};
 
-use super::report::Report;
-use super::walk::Interface;
+use crate::refusal::Refusal;
+use crate::report::{Report, reported};
+use crate::rules::{is_not_t1, is_parameter_refused};
+use crate::walk::Interface;
 
-// The answer: the number that refuses the ATR, 8 to 12, or what attach reports.
-#[derive(Clone, Copy)]
-pub enum Answer {
-    Refused { number: u8 },
-    Taken { report: Report },
-}
-
-// 11 and 12, by the interface bytes; else the report.
-pub fn on_terms(a: Interface, historical: u8) -> Answer
+// 11 and 12, by the interface bytes; else what attach reports.
+#[tactic(auto, unfolding(crate::specs::Answer::terms_of))]
+pub fn on_terms(a: Interface, historical: u8) -> Result<Report, Refusal>
     ensures { result ≡ answered (terms_of a) (report_of a historical) }
 {
-    if super::rules::is_not_t1(a) {
-        return Answer::Refused { number: 11 };
+    if is_not_t1(a) {
+        return Err(Refusal::Protocol);
     }
-    if super::rules::is_parameter_refused(a) {
-        return Answer::Refused { number: 12 };
+    if is_parameter_refused(a) {
+        return Err(Refusal::Parameter);
     }
-    Answer::Taken {
-        report: super::report::reported(a, historical),
-    }
+    Ok(reported(a, historical))
 }

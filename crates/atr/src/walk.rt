@@ -1,9 +1,18 @@
 // What is read of an ATR's interface bytes. The walk over the bytes is in specs/Walk, and its code in the crate `reset`.
+ghost use Rattle.std.specs.Prelude.{◌≡◌, ◌<◌, ◌↔◌, IsSome, IfSome};
 
 // An interface byte that is not there; no byte is 256.
 pub const ABSENT: u16 = 256;
 
-// TAi, TBi, TCi and TDi.
+// The byte that a field of `Interface` has, if it is there.
+pub(crate) fn byte(field: u16) -> Option<u8>
+    ensures there { IsSome result ↔ (field < 256) }
+    ensures value { IfSome result (λ b. b ≡ field) }
+{
+    u8::try_from(field).ok()
+}
+
+// TAi, TBi, TCi and TDi, each a byte or ABSENT.
 #[derive(Clone, Copy)]
 pub struct Group {
     pub ta: u16,
@@ -12,7 +21,7 @@ pub struct Group {
     pub td: u16,
 }
 
-// The interface bytes that are read.
+// The interface bytes that are read. A field is a u16, and no Option of a byte: `on_terms` has an answer for every number.
 #[derive(Clone, Copy)]
 pub struct Interface {
     pub ta1: u16,

@@ -9,22 +9,19 @@ fn count(y: u16) -> usize
     ensures value { result ≡ length (announced y) }
     ensures upper_bound { result ≤ 4 }
 {
-    let n = y / 16 % 2 + y / 32 % 2 + y / 64 % 2 + y / 128 % 2;
-    n as usize
+    usize::from(y / 16 % 2 + y / 32 % 2 + y / 64 % 2 + y / 128 % 2)
 }
 
 // The byte at p, if the bit that announces it is 1 and the bytes reach that far.
+#[tactic(auto, unfolding(atr::specs::Walk::field_at))]
 fn field(s: &[u8], p: usize, bit: usize) -> u16
     ensures value { result ≡ field_at s.now p bit }
     ensures upper_bound { result ≤ 256 }
 {
-    if bit != 1 {
-        return ABSENT;
+    match s.get(p) {
+        Some(&x) if bit == 1 => u16::from(x),
+        _ => ABSENT,
     }
-    if s.len() <= p {
-        return ABSENT;
-    }
-    s[p] as u16
 }
 
 // The group at p that y announces. The bound on p is far beyond any ATR, and lets the sums fit.
@@ -33,10 +30,10 @@ fn group_at(s: &[u8], p: usize, y: u16) -> Group
     ensures value { result ≡ behind 0 (walk_from s.now p y).groups }
     ensures td_bound { result.td ≤ 256 }
 {
-    let a = (y / 16 % 2) as usize;
-    let b = (y / 32 % 2) as usize;
-    let c = (y / 64 % 2) as usize;
-    let d = (y / 128 % 2) as usize;
+    let a = usize::from(y / 16 % 2);
+    let b = usize::from(y / 32 % 2);
+    let c = usize::from(y / 64 % 2);
+    let d = usize::from(y / 128 % 2);
     Group {
         ta: field(s, p, a),
         tb: field(s, p + a, b),
@@ -50,13 +47,11 @@ fn group_behind(s: &[u8], n: u8) -> Group
     ensures { result ≡ behind n (walk_of s.now).groups }
 {
     let mut at: usize = 2;
-    let mut td = numbers::get8(s, 1) as u16;
-    let mut i: u8 = 0;
-    while i < n {
+    let mut td = u16::from(numbers::get8(s, 1));
+    for _ in 0..n {
         let g = group_at(s, at, td);
         at += count(td);
         td = g.td;
-        i += 1;
     }
     group_at(s, at, td)
 }
@@ -84,10 +79,7 @@ pub(crate) fn interface_bytes(s: &[u8]) -> Interface
 fn names_other(before: bool, td: u16) -> bool
     ensures { result ≡ (before || other_than0 td) }
 {
-    if before {
-        return true;
-    }
-    td % 16 != 0
+    before || td % 16 != 0
 }
 
 // Walks group by group to the end: each TD that is there moves on by a byte at least.
@@ -97,7 +89,7 @@ pub(crate) fn to_end(s: &[u8]) -> End
     ensures at_bound { result.at ≤ 2000 }
 {
     let mut at: usize = 2;
-    let mut td = numbers::get8(s, 1) as u16;
+    let mut td = u16::from(numbers::get8(s, 1));
     let mut tck = false;
     while td < ABSENT {
         let g = group_at(s, at, td);
@@ -113,9 +105,5 @@ pub(crate) fn announced_length(end: End, historical: u8) -> usize
     requires { end.at ≤ 2000 }
     ensures { result ≡ length_of end historical }
 {
-    let n = end.at + (historical as usize);
-    if end.tck {
-        return n + 1;
-    }
-    n
+    end.at + usize::from(historical) + usize::from(end.tck)
 }

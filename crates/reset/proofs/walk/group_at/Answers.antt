@@ -7,6 +7,10 @@ unfolding group_at
 returns c =
     let a = c.args in record {
       value = simp (
+        c.from-a.ensures,
+        c.from-b.ensures,
+        c.from-c.ensures,
+        c.from-d.ensures,
         c.field-4.ensures.value,
         c.field-3.ensures.value,
         c.field-2.ensures.value,

@@ -5,22 +5,21 @@ use native.Mathlib.Omega.{arith}
 use Prim.Native.Nat.{ℕ, suc, ◌+◌, ◌-◌}
 use Rattle.reset.proofs.walk.group_behind.Goals as goal
 
-pub loop-i-init : goal.loop-i-init
+pub loop-init : goal.loop-init
 unfolding walk_of
-loop-i-init c =
+loop-init c =
     let a = c.args in
     let all_left : a.n - 0 ≡ a.n = omega arith in
-    (omega arith, omega arith, ap₂ (λ (k t : ℕ). behind k (walk_from a.s.now 2 t).groups) all_left c.get8-td.ensures)
+    (omega arith, ap₂ (λ (k t : ℕ). behind k (walk_from a.s.now 2 t).groups) all_left (c.from-td.ensures ∙ c.get8.ensures))
 
-pub loop-i-preserved : goal.loop-i-preserved
-loop-i-preserved c =
-    let l = c.loop-i in
+pub loop-preserved : goal.loop-preserved
+loop-preserved c =
+    let l = c.loop in
     let a = c.args in
     let g = c.group_at-g in
-    let left : suc (a.n - (l.i + 1)) ≡ a.n - l.i = omega arith in (
-      omega arith,
+    let left : suc (a.n - (l.counter + 1)) ≡ a.n - l.counter = omega arith in (
       omega (arith, c.count-at.ensures.upper_bound),
-      next_group a.s.now l.at l.td g.result c.count-at.result g.ensures.value c.count-at.ensures.value (a.n - (l.i + 1)) _ refl
+      next_group a.s.now l.at l.td g.result c.count-at.result g.ensures.value c.count-at.ensures.value (a.n - (l.counter + 1)) _ refl
           ∙ ap (λ (k : ℕ). behind k (walk_from a.s.now l.at l.td).groups) left
-          ∙ l.invariant.2,
+          ∙ l.invariant.1,
     )
