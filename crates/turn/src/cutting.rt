@@ -4,6 +4,7 @@ ghost use Rattle.slot.specs.Blocks.{is_more};
 ghost use Rattle.turn.specs.Sending.{last_i, cut_next, send_next, say_again};
 
 use crate::safe::SafeTalk;
+use crate::sending::NO_FAULT;
 use slot::{Cut, Last, Line, Next, Send, Talk};
 
 impl SafeTalk {
@@ -63,7 +64,7 @@ impl SafeTalk {
         ensures { result ≡ say_again self.talk }
     {
         if self.talk.acked {
-            self.send_in_place(0)
+            self.send_in_place(NO_FAULT)
         } else {
             self.send_again(Last::I, self.last_i())
         }

@@ -3,6 +3,7 @@ ghost use Rattle.std.specs.Prelude.{◌≡◌};
 ghost use Rattle.turn.specs.Rows.{on_r, on_request, while_busy};
 
 use crate::safe::SafeTalk;
+use crate::sending::{EDC_FAULT, OTHER_FAULT};
 use block::Event;
 use slot::{Last, Line, Next, Send, Talk, Turn};
 
@@ -19,7 +20,7 @@ impl SafeTalk {
         } else if !acked && self.has_more() {
             self.send_next()
         } else {
-            self.answer_invalid(2)
+            self.answer_invalid(OTHER_FAULT)
         }
     }
 
@@ -57,8 +58,10 @@ impl SafeTalk {
             Event::IfsRequest { size } => self.on_request(size, 0xE1, size, bwt),
             Event::Wtx { times } => self.on_request(ifsc, 0xE3, times, u32::from(times) * bwt),
             Event::Abort => greeting::end(22, self.talk.turn.sent),
-            Event::Edc => self.answer_invalid(1),
-            Event::I { .. } | Event::IfsResponse { .. } | Event::Other => self.answer_invalid(2),
+            Event::Edc => self.answer_invalid(EDC_FAULT),
+            Event::I { .. } | Event::IfsResponse { .. } | Event::Other => {
+                self.answer_invalid(OTHER_FAULT)
+            }
         }
     }
 }

@@ -6,6 +6,14 @@ ghost use Rattle.turn.specs.Sending.{again, in_place, invalid};
 use crate::safe::SafeTalk;
 use slot::{Last, Next, Send, Slot, Talk, Turn};
 
+// The low nibble of an R-block: what it tells of the block before it. `Last::R` keeps it as the number that is sent, which
+// `last_fits` reads, so it is no enum.
+pub(crate) const NO_FAULT: u8 = 0;
+
+pub(crate) const EDC_FAULT: u8 = 1;
+
+pub(crate) const OTHER_FAULT: u8 = 2;
+
 impl SafeTalk {
     // A block goes out, the last sent from now on, at this go; the slot is busy.
     fn go_out(self, last: Last, go: u8, send: Send, wait: u32) -> Next
