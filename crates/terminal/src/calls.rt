@@ -7,7 +7,9 @@ ghost use Rattle.terminal.specs.Calls.{greeted, due_of, settled_pool, event_of, 
 use block::Event;
 use slot::{Line, Next, Slot, Talk};
 
-// An event on a slot that is greeting: kind 0 is bytes with good parity, 1 a parity fault, 2 silence.
+// An event on a slot that is greeting: kind 0 is bytes with good parity, 1 a parity fault, 2 silence. `greeted` speaks of
+// every number, so a kind is no enum.
+#[tactic(auto, unfolding(crate::specs::Calls::greeted))]
 pub fn greet(line: Line, sent: u32, kind: u64, bytes: &[u8]) -> Next
     ensures { result ≡ greeted line sent kind bytes.now }
 {
@@ -15,6 +17,7 @@ pub fn greet(line: Line, sent: u32, kind: u64, bytes: &[u8]) -> Next
 }
 
 // An I-block that is due: it takes a cell if the pool gives one.
+#[tactic(auto, unfolding(crate::specs::Calls::due_of))]
 fn store(r: &mut [u8], i: usize, t: Talk, e: Event, inf: &[u8]) -> Next
     ensures value { result ≡ due_of r.old i t e inf.now }
     ensures r_after { r.new ≡ appended r.old i inf.now }
@@ -24,6 +27,7 @@ fn store(r: &mut [u8], i: usize, t: Talk, e: Event, inf: &[u8]) -> Next
 }
 
 // An ending frees the cells at once.
+#[tactic(auto, unfolding(crate::specs::Calls::settled_pool))]
 fn settle(r: &mut [u8], i: usize, ending: u8)
     ensures { r.new ≡ settled_pool r.old i ending }
 {
@@ -32,20 +36,20 @@ fn settle(r: &mut [u8], i: usize, ending: u8)
     }
 }
 
-// An event on a slot that is busy.
+// An event on a slot that is busy; the kind is as in `greet`.
+#[tactic(auto, unfolding(crate::specs::Calls::event_of, crate::specs::Calls::pool_of, crate::specs::Calls::stored_in, block::specs::Reader::inf_read))]
 pub fn event(r: &mut [u8], i: usize, t: Talk, kind: u64, bytes: &[u8]) -> Next
     ensures value { result ≡ event_of r.old i t kind bytes.now }
     ensures r_after { r.new ≡ pool_of r.old i t kind bytes.now }
 {
     let e = block::read(kind, bytes);
-    if taking::asks_cell(t, e) {
-        let taken = store(r, i, t, e, block::inf(e, bytes));
-        settle(r, i, taken.ending);
-        return taken;
-    }
-    let n = turn::hear(t, e);
-    settle(r, i, n.ending);
-    n
+    let next = if taking::asks_cell(t, e) {
+        store(r, i, t, e, block::inf(e, bytes))
+    } else {
+        turn::hear(t, e)
+    };
+    settle(r, i, next.ending);
+    next
 }
 
 // The cells free, and the slot as given.
@@ -59,15 +63,17 @@ fn empty(r: &mut [u8], i: usize, slot: Slot) -> Next
 
 // Collect, from a slot that is done: the response to the front of out, the cells free, the slot ready. Where out is
 // shorter, nothing is done.
+#[tactic(auto, unfolding(crate::specs::Calls::collected, crate::specs::Calls::collected_pool))]
 pub fn collect(r: &mut [u8], i: usize, line: Line, out: &mut [u8]) -> Next
     ensures value { result ≡ collected r.old i line out.old }
     ensures r_after { r.new ≡ collected_pool r.old i out.old }
     ensures out_after { out.new ≡ copied r.old i out.old }
 {
     if response::copy_out(r, i, out) {
-        return empty(r, i, Slot::Ready { line: line });
+        empty(r, i, Slot::Ready { line })
+    } else {
+        greeting::rest(Slot::Done { line }, 0)
     }
-    greeting::rest(Slot::Done { line: line }, 0)
 }
 
 // Remove: the cells free, the slot empty.

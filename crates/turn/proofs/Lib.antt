@@ -1,4 +1,3 @@
--- Laws of a turn: what the code's proofs cite, and that each row shows the paper's.
-pub mod SafeLaws
+-- Laws of a turn: each row shows the paper's, and each promise settles its answer.
 pub mod ViewLaws
 pub mod Settled

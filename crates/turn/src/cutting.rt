@@ -1,95 +1,72 @@
 // The command's I-blocks: where the last was cut, and where the next will be.
-ghost use Rattle.std.specs.Prelude.{◌≡◌, ◌-◌, min};
+ghost use Rattle.std.specs.Prelude.{◌≡◌};
 ghost use Rattle.slot.specs.Blocks.{is_more};
-ghost use Rattle.turn.specs.Sending.{last_i, next_cut, cut_next, send_next, say_again};
-ghost use Rattle.slot.specs.Safe.{Numbers, Within};
+ghost use Rattle.turn.specs.Sending.{last_i, cut_next, send_next, say_again};
 
-use slot::{Cut, Last, Next, Send, Talk};
+use crate::safe::SafeTalk;
+use crate::sending::NO_FAULT;
+use slot::{Cut, Last, Line, Next, Send, Talk};
 
-// The smaller of two numbers.
-fn least(a: usize, b: usize) -> usize
-    ensures { result ≡ min a b }
-{
-    if a < b {
-        return a;
+impl SafeTalk {
+    // Whether more of the command is left after the last I-block.
+    pub(crate) fn has_more(self) -> bool
+        ensures { result ≡ is_more self.talk.cut }
+    {
+        let cut = self.talk.cut;
+        cut.from + cut.len < cut.whole
     }
-    b
-}
 
-// The other of the numbers 0 and 1; after any other, 0.
-pub(crate) fn flip(n: u8) -> u8
-    ensures { result ≡ 1 - n }
-{
-    if n < 1 {
-        return 1;
+    // The last I-block, as it was cut.
+    fn last_i(self) -> Send
+        ensures { result ≡ last_i self.talk }
+    {
+        let Talk { line, cut, .. } = self.talk;
+        let more = if self.has_more() { 0x20 } else { 0 };
+        Send::I {
+            pcb: 0x40 * line.s + more,
+            from: cut.from,
+            len: cut.len,
+        }
     }
-    0
-}
 
-// Whether more of the command is left after the last I-block.
-pub(crate) fn is_more(c: Cut) -> bool
-    requires { Within c }
-    ensures { result ≡ is_more c }
-{
-    c.from + c.len < c.whole
-}
-
-// The last I-block, as it was cut.
-fn last_i(t: Talk) -> Send
-    requires { Numbers t × Within t.cut }
-    ensures { result ≡ last_i t }
-{
-    let cut = t.cut;
-    Send::I {
-        pcb: super::sending::i_pcb(t.line.s, is_more(cut)),
-        from: t.cut.from,
-        len: t.cut.len,
+    // The next I-block is cut, and stands: the other number, and min(IFSC, what is left) bytes.
+    fn cut_next(self) -> SafeTalk
+        ensures { result.talk ≡ cut_next self.talk }
+    {
+        let Talk { line, cut, .. } = self.talk;
+        let from = cut.from + cut.len;
+        let len = usize::from(line.ifsc).min(cut.whole - from);
+        SafeTalk {
+            talk: Talk {
+                line: Line {
+                    s: 1 - line.s,
+                    ..line
+                },
+                cut: Cut { from, len, ..cut },
+                acked: false,
+                ..self.talk
+            },
+        }
     }
-}
 
-// The next cut: min(IFSC, what is left).
-fn next_cut(ifsc: u8, c: Cut) -> Cut
-    requires { Within c }
-    ensures { result ≡ next_cut ifsc c }
-{
-    let at = c.from + c.len;
-    Cut {
-        whole: c.whole,
-        from: at,
-        len: least(numbers::wide(ifsc), c.whole - at),
+    // The next I-block goes out.
+    #[tactic(auto, unfolding(crate::specs::Sending::send_next))]
+    pub(crate) fn send_next(self) -> Next
+        ensures { result ≡ send_next self.talk }
+    {
+        let next = self.cut_next();
+        next.send_new(Last::I, next.last_i(), next.talk.line.bwt)
     }
-}
 
-// The next I-block is cut, and stands; s is its number.
-fn cut_next(t: Talk) -> Talk
-    requires { Within t.cut }
-    ensures { result ≡ cut_next t }
-{
-    let mut n = t;
-    let s = flip(t.line.s);
-    let cut = t.cut;
-    n.line.s = s;
-    n.cut = next_cut(t.line.ifsc, cut);
-    n.acked = false;
-    n
-}
-
-// The next I-block goes out.
-pub(crate) fn send_next(t: Talk) -> Next
-    requires { Numbers t × Within t.cut }
-    ensures { result ≡ send_next t }
-{
-    let c = cut_next(t);
-    super::sending::send_new(c, Last::I, last_i(c), t.line.bwt)
-}
-
-// The standing block goes out again.
-pub(crate) fn say_again(t: Talk) -> Next
-    requires { Numbers t × Within t.cut }
-    ensures { result ≡ say_again t }
-{
-    if t.acked {
-        return super::sending::send_in_place(t, 0);
+    // The standing block goes out again.
+    #[tactic(auto, unfolding(crate::specs::Sending::say_again))]
+    pub(crate) fn say_again(self) -> Next
+        ensures { result ≡ say_again self.talk }
+    {
+        if self.talk.acked {
+            self.send_in_place(NO_FAULT)
+        } else {
+            self.send_again(Last::I, self.last_i())
+        }
     }
-    super::sending::send_again(t, Last::I, last_i(t))
 }

@@ -5,6 +5,7 @@
 mod calls;
 mod cutting;
 mod rows;
+mod safe;
 mod sending;
 
 pub use calls::{command, hear};

@@ -1,15 +1,10 @@
-use Rattle.turn.specs.Calls.{heard}
+use Rattle.slot.specs.Safe.{Safe}
 use Rattle.slot.proofs.SafeLaws.{range_safe}
 use mathlib.Core.Path.{sym, ◌∙◌}
 use Rattle.turn.proofs.calls.hear.Goals as goal
 
-pub busy-requires : goal.busy-requires
-busy-requires c = range_safe c.args.t (sym c.is_in_range.ensures ∙ c.if-is_in_range.true)
-
-pub returns-then-is_in_range : goal.returns-then-is_in_range
-unfolding heard
-returns-then-is_in_range c = c.busy.ensures ∙ sym (rw (sym c.is_in_range.ensures ∙ c.if-is_in_range.true))
-
-pub returns : goal.returns
-unfolding heard
-returns c = c.rest.ensures ∙ sym (rw (sym c.is_in_range.ensures ∙ c.if-is_in_range.false))
+-- a talk in its ranges is safe
+pub invariant_of-busy : goal.invariant_of-busy
+invariant_of-busy c =
+    let safe : Safe c.args.t = range_safe c.args.t (sym c.is_in_range.ensures ∙ c.if-is_in_range.true) in
+    record { numbers = safe.numbers; cut = safe.cut; nibble = ∣ safe.nibble ∣₁ }

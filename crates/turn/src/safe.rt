@@ -1,0 +1,13 @@
+// A talk whose numbers are in range, so that nothing overflows. It is built where the ranges were tested, and anew by each
+// step that goes on from another.
+ghost use Rattle.slot.specs.Safe.{Numbers, Within, Nibble};
+
+use slot::Talk;
+
+#[derive(Clone, Copy)]
+pub(crate) struct SafeTalk {
+    pub(crate) talk: Talk,
+    pub(crate) ghost numbers: { Numbers talk },
+    pub(crate) ghost cut: { Within talk.cut },
+    pub(crate) ghost nibble: { ∥ Nibble talk.turn.last ∥₁ },
+}
