@@ -5,6 +5,7 @@ ghost use Rattle.atr.specs.Answer.{number_of, values_of, number_in, report_in, a
 
 use crate::walk::{announced_length, interface_bytes, to_end};
 use atr::{Refusal, Report};
+use numbers::Number;
 
 // 8: a first byte that is neither 3B nor 3F.
 #[tactic(auto, unfolding(atr::specs::Rules::start_wrong))]
@@ -34,7 +35,7 @@ pub fn read(s: &[u8]) -> Result<Report, Refusal>
     if 33 < s.len() {
         return Err(Refusal::Length);
     }
-    let historical = numbers::get8(s, 1) % 16;
+    let historical = u8::get(s, 1) % 16;
     let end = to_end(s);
     if s.len() != announced_length(end, historical) {
         return Err(Refusal::Length);

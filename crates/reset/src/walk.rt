@@ -3,6 +3,7 @@ ghost use Rattle.std.specs.Prelude.{◌≡◌, ◌≤◌, ◌||◌, length};
 ghost use Rattle.atr.specs.Walk.{announced, field_at, walk_from, walk_of, behind, other_than0, interface_of, end_of, length_of};
 
 use atr::walk::{ABSENT, End, Group, Interface};
+use numbers::Number;
 
 // How many bytes y, which is T0 or a TDi, announces.
 fn count(y: u16) -> usize
@@ -47,7 +48,7 @@ fn group_behind(s: &[u8], n: u8) -> Group
     ensures { result ≡ behind n (walk_of s.now).groups }
 {
     let mut at: usize = 2;
-    let mut td = u16::from(numbers::get8(s, 1));
+    let mut td = u16::from(u8::get(s, 1));
     for _ in 0..n {
         let g = group_at(s, at, td);
         at += count(td);
@@ -89,7 +90,7 @@ pub(crate) fn to_end(s: &[u8]) -> End
     ensures at_bound { result.at ≤ 2000 }
 {
     let mut at: usize = 2;
-    let mut td = u16::from(numbers::get8(s, 1));
+    let mut td = u16::from(u8::get(s, 1));
     let mut tck = false;
     while td < ABSENT {
         let g = group_at(s, at, td);

@@ -32,7 +32,7 @@ unfolding answer_of number_of length_wrong
 returns-then-s-announced_length c =
     let s = c.args.s.now in
     let sized : c.announced_length.result ≡ length_of (end_of s) (historical s) =
-    c.announced_length.ensures ∙ ap₂ length_of c.to_end-end.ensures.value (ap (λ (x : ℕ). x % 16) c.get8-historical.ensures) in
+    c.announced_length.ensures ∙ ap₂ length_of c.to_end-end.ensures.value (ap (λ (x : ℕ). x % 16) c.get-historical.ensures) in
     let w = answer_whole c.args.s.now (Err Length) (simp (
       sym c.is_start_wrong.ensures ∙ c.if-is_start_wrong.false,
       ne_eqb _ _ (λ q. c.if-s-announced_length.true (q ∙ sym (sized))),
@@ -45,7 +45,7 @@ unfolding answer_of number_of length_wrong
 returns-then-is_check_wrong c =
     let s = c.args.s.now in
     let sized : c.announced_length.result ≡ length_of (end_of s) (historical s) =
-    c.announced_length.ensures ∙ ap₂ length_of c.to_end-end.ensures.value (ap (λ (x : ℕ). x % 16) c.get8-historical.ensures) in
+    c.announced_length.ensures ∙ ap₂ length_of c.to_end-end.ensures.value (ap (λ (x : ℕ). x % 16) c.get-historical.ensures) in
     let checked : c.is_check_wrong.result ≡ check_wrong s (end_of s).tck =
     c.is_check_wrong.ensures ∙ ap (λ (e : End). check_wrong s e.tck) c.to_end-end.ensures.value in
     let w = answer_whole c.args.s.now (Err Check) (simp (
@@ -61,12 +61,12 @@ unfolding answer_of number_of length_wrong
 returns c =
     let s = c.args.s.now in
     let sized : c.announced_length.result ≡ length_of (end_of s) (historical s) =
-    c.announced_length.ensures ∙ ap₂ length_of c.to_end-end.ensures.value (ap (λ (x : ℕ). x % 16) c.get8-historical.ensures) in
+    c.announced_length.ensures ∙ ap₂ length_of c.to_end-end.ensures.value (ap (λ (x : ℕ). x % 16) c.get-historical.ensures) in
     let checked : c.is_check_wrong.result ≡ check_wrong s (end_of s).tck =
     c.is_check_wrong.ensures ∙ ap (λ (e : End). check_wrong s e.tck) c.to_end-end.ensures.value in
     let turned =
     c.on_terms.ensures
-    ∙ ap₂ (λ (a : Interface) (h : ℕ). answered (terms_of a) (report_of a h)) c.interface_bytes.ensures (ap (λ (x : ℕ). x % 16) c.get8-historical.ensures) in
+    ∙ ap₂ (λ (a : Interface) (h : ℕ). answered (terms_of a) (report_of a h)) c.interface_bytes.ensures (ap (λ (x : ℕ). x % 16) c.get-historical.ensures) in
     let w = answer_whole c.args.s.now c.on_terms.result (simp (
       turned,
       sym c.is_start_wrong.ensures ∙ c.if-is_start_wrong.false,

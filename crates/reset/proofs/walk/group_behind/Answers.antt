@@ -10,7 +10,7 @@ unfolding walk_of
 loop-init c =
     let a = c.args in
     let all_left : a.n - 0 ≡ a.n = omega arith in
-    (omega arith, ap₂ (λ (k t : ℕ). behind k (walk_from a.s.now 2 t).groups) all_left (c.from-td.ensures ∙ c.get8.ensures))
+    (omega arith, ap₂ (λ (k t : ℕ). behind k (walk_from a.s.now 2 t).groups) all_left (c.from-td.ensures ∙ c.get.ensures))
 
 pub loop-preserved : goal.loop-preserved
 loop-preserved c =

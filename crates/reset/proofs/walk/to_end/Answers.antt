@@ -12,8 +12,8 @@ loop-td-init c =
     let s = c.args.s.now in (
       omega arith,
       omega arith,
-      ap (λ (t : ℕ). 2 + (walk_from s 2 t).size) (c.from-td.ensures ∙ c.get8.ensures),
-      ap (λ (t : ℕ). some_other (walk_from s 2 t).groups) (c.from-td.ensures ∙ c.get8.ensures),
+      ap (λ (t : ℕ). 2 + (walk_from s 2 t).size) (c.from-td.ensures ∙ c.get.ensures),
+      ap (λ (t : ℕ). some_other (walk_from s 2 t).groups) (c.from-td.ensures ∙ c.get.ensures),
     )
 
 pub loop-td-smaller : goal.loop-td-smaller
