@@ -4,7 +4,7 @@ use mathlib.Core.List.{List, [], ◌∷◌}
 use Prim.Native.Nat.{ℕ, zero, suc, ◌+◌, ◌*◌, ◌/◌, ◌%◌, ◌^◌, ◌≤◌, ◌<◌}
 use native.Mathlib.Nat.{pow-suc, mod-eq_of_lt, div-add-mod', one-le-pow, mod-lt, mod-one, add-mul, mul_assoc, mul_comm, mul-le-mul_right, add-mul-mod_self_right}
 use native.Mathlib.Omega.{arith}
-use lib.ListN.{length, get_or, take, drop, length-drop, length-take}
+use lib.ListN.{length, get_or, drop, length-drop, length-take}
 use Rattle.std.specs.Prelude.{min, ◌-◌}
 use borrow.Author.Tests.{le-leb, lt-leb}
 use Rattle.lent.specs.Place.{window, splice}
@@ -109,7 +109,7 @@ part_long t a n w e l h =
 
 -- n bytes that were found at a make the number there
 pub part_number : (t : List ℕ) (a n : ℕ) (w : List ℕ) → w ≡ window t a n → n ≤ length w → a + n ≤ length t
-  → number_at t a n ≡ weighed w 0 0 n
+    → number_at t a n ≡ weighed w 0 0 n
 part_number t a n w e l h =
     let f : length w ≡ n = ap length e ∙ length-window t a n h in
     let whole : window w 0 n ≡ w = ap (window w 0) (sym f) ∙ window_whole w in

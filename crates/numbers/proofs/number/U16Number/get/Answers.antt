@@ -1,5 +1,5 @@
 use native.Mathlib.Omega.{arith}
-use mathlib.Core.Path.{sym, ◌∙◌}
+use mathlib.Core.Path.{sym}
 use lib.ListN.{length}
 use Prim.Native.Nat.{◌+◌, ◌≤◌}
 use Rattle.lent.proofs.NumberLaws.{part_long, part_number, part_not}
