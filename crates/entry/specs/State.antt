@@ -1,5 +1,5 @@
 -- The states of a slot and their numbers, 0 to 5 as in answers.
-use Rattle.std.specs.Prelude.{ℕ, ◌≡◌, ◌<◌, Option, Some, None, Result, MatchResult, MatchOption}
+use Rattle.std.specs.Prelude.{ℕ, ◌≡◌, ◌<◌, Option, Result, MatchResult, MatchOption}
 use Rattle.entry.specs.declared.states.State.{State}
 use Rattle.entry.specs.declared.states.State.TheVariants.{Empty, Greeting, Ready, Busy, Done, Ended}
 use Rattle.entry.specs.declared.states.UnknownState.{UnknownState}
