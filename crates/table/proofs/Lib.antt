@@ -5,3 +5,4 @@ pub mod FreshLaws
 pub mod ViewLaws
 pub mod FrontLaws
 pub mod Settled
+pub mod RangeLaws
