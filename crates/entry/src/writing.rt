@@ -53,19 +53,17 @@ fn last(l: Last) -> [u8; 3]
 fn talking(t: Talk) -> [u8; layout::SIZE]
     ensures { result ≡ talk_bytes t }
 {
-    let cut = t.cut;
-    let turn = t.turn;
-    let mut b = plain(State::Busy, t.line, turn.sent);
-    b[layout::WHOLE..layout::FROM].copy_from_slice(&two(cut.whole));
-    b[layout::FROM..layout::LEN].copy_from_slice(&two(cut.from));
-    b[layout::LEN] = (cut.len % 256) as u8;
+    let [sort, value, byte] = last(t.turn.last);
+    let mut b = plain(State::Busy, t.line, t.turn.sent);
+    b[layout::WHOLE..layout::FROM].copy_from_slice(&two(t.cut.whole));
+    b[layout::FROM..layout::LEN].copy_from_slice(&two(t.cut.from));
+    b[layout::LEN] = (t.cut.len % 256) as u8;
     b[layout::ACKED] = u8::from(t.acked);
-    let [sort, value, byte] = last(turn.last);
     b[layout::LAST] = sort;
     b[layout::VALUE] = value;
     b[layout::BYTE] = byte;
-    b[layout::GO] = turn.go;
-    b[layout::REQUESTS] = (turn.requests % 256) as u8;
+    b[layout::GO] = t.turn.go;
+    b[layout::REQUESTS] = (t.turn.requests % 256) as u8;
     b
 }
 
