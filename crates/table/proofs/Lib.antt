@@ -5,4 +5,3 @@ pub mod FreshLaws
 pub mod ViewLaws
 pub mod FrontLaws
 pub mod Settled
-pub mod RangeLaws

@@ -4,7 +4,7 @@ use Rattle.std.proofs.lemmas.Iterator.{YieldsList-from_range}
 use Rattle.std.proofs.lemmas.Iterator.Search.{all_from_yields_List}
 use Rattle.region.specs.Layout.{holders}
 use Rattle.table.specs.Sound.{slot_sound}
-use Rattle.table.proofs.RangeLaws.{all_range}
+use Rattle.sound.proofs.RangeLaws.{all_range}
 use Rattle.table.proofs.soundness.are_slots_sound.Goals as goal
 
 pub returns : goal.returns
