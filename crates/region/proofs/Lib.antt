@@ -2,4 +2,5 @@
 pub mod LimitLaws
 pub mod HolderLaws
 pub mod SoundLaws
+pub mod PartLaws
 pub mod Settled

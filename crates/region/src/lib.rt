@@ -7,5 +7,5 @@ pub mod layout;
 mod limits;
 
 pub use holding::{free, granted, held};
-pub use layout::{is_holder, is_piece_size};
+pub use layout::{Region, is_holder, is_piece_size};
 pub use limits::acceptable;

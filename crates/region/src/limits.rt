@@ -3,14 +3,13 @@ ghost use Rattle.std.specs.Prelude.{◌≡◌, ◌&&◌, leb};
 ghost use Rattle.shares.specs.Pool.{fit};
 ghost use Rattle.region.specs.Layout.{cells, pool_of};
 
+use super::layout::{CELLS, HOLDERS};
+
 // No share above its ceiling, no ceiling above the cells.
 fn in_order(share: u8, ceiling: u8) -> bool
     ensures { result ≡ (leb share ceiling && leb ceiling cells) }
 {
-    if ceiling < share {
-        return false;
-    }
-    numbers::wide(ceiling) <= super::layout::CELLS
+    share <= ceiling && usize::from(ceiling) <= CELLS
 }
 
 // Whether a pool opens with these shares and ceilings: so for all holders, and the shares add to no more than the cells.
@@ -18,15 +17,13 @@ fn in_order(share: u8, ceiling: u8) -> bool
 pub fn acceptable(shares: &[u8], ceilings: &[u8]) -> bool
     ensures { result ≡ fit (pool_of shares.now ceilings.now) }
 {
-    let mut total: usize = 0;
-    let mut i: usize = 0;
-    while i < super::layout::HOLDERS {
+    let mut total = 0;
+    for i in 0..HOLDERS {
         let share = numbers::get8(shares, i);
         if !in_order(share, numbers::get8(ceilings, i)) {
             return false;
         }
-        total += numbers::wide(share);
-        i += 1;
+        total += usize::from(share);
     }
-    total <= super::layout::CELLS
+    total <= CELLS
 }

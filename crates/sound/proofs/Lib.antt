@@ -1,2 +1,3 @@
--- That the promise settles its answer.
+-- A range's numbers tested one by one, and that the promise settles its answer.
+pub mod RangeLaws
 pub mod Settled

@@ -1,170 +1,109 @@
 // Whether a region is sound. The numbers are tested before the lists, so that the lists name 96 cells at most in all.
-ghost use Rattle.std.specs.Prelude.{◌≡◌, cond, ◌&&◌, ◌≤◌, ◌<◌, eqb, length};
+ghost use Rattle.std.specs.Prelude.{◌≡◌, ◌&&◌, ◌≤◌, ◌<◌, eqb, length, count_by};
 ghost use Rattle.lent.specs.Fold.{all, sum};
 ghost use Rattle.shares.specs.Pool as pool;
-ghost use Rattle.region.specs.Layout.{holders, cells, unowned, size, held, pool_in};
+ghost use Rattle.region.specs.Layout.{holders, cells, unowned, held, pool_in};
 ghost use Rattle.region.specs.Sound.{free_at, piece_size, is_piece, listed_well, list_well, counted, sound_in};
 ghost use Rattle.region.specs.Sound as rules;
 
-// Whether a cell with this owner, place and length is holder i's piece k.
-fn is_marked(owner: u8, place: u8, n: u8, i: usize, k: usize) -> bool
-    ensures { result ≡ (eqb owner i && (eqb place k && piece_size n)) }
-{
-    if (owner as usize) != i {
-        return false;
-    }
-    if (place as usize) != k {
-        return false;
-    }
-    region::is_piece_size(numbers::wide(n))
-}
+use region::Region;
+use region::layout::{
+    CEILINGS, CELLS, HELD, HOLDERS, LENGTHS, LISTS, OWNERS, PLACES, SHARES, UNOWNED,
+};
 
 // Whether cell c is holder i's piece k.
-fn is_piece(r: &[u8], i: usize, k: usize, c: usize) -> bool
-    requires { size ≤ length r.now }
+fn is_piece(r: &Region<'_>, i: usize, k: u8, c: usize) -> bool
     ensures { result ≡ is_piece r.now i k c }
 {
-    if c < region::layout::CELLS {
-        let owner = r[region::layout::OWNERS + c];
-        let place = r[region::layout::PLACES + c];
-        return is_marked(owner, place, r[region::layout::LENGTHS + c], i, k);
-    }
-    false
+    c < CELLS
+        && usize::from(r.bytes[OWNERS + c]) == i
+        && r.bytes[PLACES + c] == k
+        && region::is_piece_size(usize::from(r.bytes[LENGTHS + c]))
 }
 
 // Whether the k-th cell of holder i's list is its piece k.
-fn is_listed(r: &[u8], i: usize, k: usize) -> bool
-    requires { (size ≤ length r.now) × (i < holders) × (k < 256) }
+#[tactic(auto, unfolding(region::specs::Sound::listed_well))]
+fn is_listed(r: &Region<'_>, i: usize, k: u8) -> bool
+    requires { i < holders }
     ensures { result ≡ listed_well r.now i k }
 {
-    is_piece(
-        r,
-        i,
-        k,
-        numbers::wide(r[region::layout::LISTS + (i * region::layout::CELLS + k)]),
-    )
+    let c = r.bytes[LISTS + (i * CELLS + usize::from(k))];
+    is_piece(r, i, k, usize::from(c))
 }
 
 // Whether holder i's list names its pieces in order.
-fn is_list(r: &[u8], i: usize) -> bool
-    requires { (size ≤ length r.now) × (i < holders) }
+fn is_list(r: &Region<'_>, i: usize) -> bool
+    requires { i < holders }
     ensures { result ≡ list_well r.now i }
 {
-    let n = numbers::wide(r[region::layout::HELD + i]);
-    let mut k: usize = 0;
-    while k < n {
-        if !is_listed(r, i, k) {
-            return false;
-        }
-        k += 1;
-    }
-    true
+    (0..r.bytes[HELD + i]).all(|k| is_listed(r, i, k))
 }
 
 // Whether all holders' lists do.
-fn are_lists(r: &[u8]) -> bool
-    requires { size ≤ length r.now }
+fn are_lists(r: &Region<'_>) -> bool
     ensures { result ≡ all holders (list_well r.now) }
 {
-    let mut i: usize = 0;
-    while i < region::layout::HOLDERS {
-        if !is_list(r, i) {
-            return false;
-        }
-        i += 1;
-    }
-    true
+    (0..HOLDERS).all(|i| is_list(r, i))
 }
 
 // Whether no holder is over its ceiling, no more is held than there is, and the free cells are at least what all holders lack.
-fn are_holdings(r: &[u8]) -> bool
-    requires { size ≤ length r.now }
+fn are_holdings(r: &Region<'_>) -> bool
     ensures { result ≡ pool.sound (pool_in r.now) (held r.now) }
 {
-    let mut total: usize = 0;
-    let mut lacking: usize = 0;
-    let mut j: usize = 0;
-    while j < region::layout::HOLDERS {
-        let held = r[region::layout::HELD + j];
-        if r[region::layout::CEILINGS + j] < held {
+    let mut total = 0;
+    let mut lacking = 0;
+    for j in 0..HOLDERS {
+        let held = r.bytes[HELD + j];
+        if r.bytes[CEILINGS + j] < held {
             return false;
         }
-        total += numbers::wide(held);
-        lacking += shares::lack(r[region::layout::SHARES + j], held) as usize;
-        j += 1;
+        total += usize::from(held);
+        lacking += usize::from(shares::lack(r.bytes[SHARES + j], held));
     }
-    if region::layout::CELLS < total {
-        return false;
-    }
-    lacking <= region::layout::CELLS - total
+    total <= CELLS && lacking <= CELLS - total
 }
 
-fn one_if_unowned(owner: u8) -> u8
-    ensures { (result ≡ cond (eqb owner unowned) 1 0) × (result ≤ 1) }
+// How many of these cells nobody owns. In u8, so that the compiler may count several cells at a time.
+fn unowned_of(owners: &[u8]) -> u8
+    requires { length owners.now ≤ cells }
+    ensures { result ≡ count_by (λ o. eqb o unowned) owners.now }
 {
-    if owner == region::layout::UNOWNED {
-        1
-    } else {
-        0
-    }
-}
-
-// How many cells nobody owns. In u8, so that the compiler may count several cells at a time.
-fn unowned_in_all(r: &[u8]) -> u8
-    requires { size ≤ length r.now }
-    ensures { (result ≡ sum cells (free_at r.now)) × (result ≤ 96) }
-{
-    let mut total: u8 = 0;
-    let mut c: usize = 0;
-    while c < region::layout::CELLS {
-        total += one_if_unowned(r[region::layout::OWNERS + c]);
-        c += 1;
-    }
-    total
+    owners.iter().map(|&o| u8::from(o == UNOWNED)).sum()
 }
 
 // Whether as many cells are unowned as are free.
-fn is_counted(r: &[u8]) -> bool
-    requires { size ≤ length r.now }
+fn is_counted(r: &Region<'_>) -> bool
     ensures { result ≡ counted r.now }
 {
-    unowned_in_all(r) == region::free(r)
+    unowned_of(&r.bytes[OWNERS..OWNERS + CELLS]) == region::free(r.bytes)
 }
 
 // Whether shares and ceilings pass.
-fn are_limits(r: &[u8]) -> bool
-    requires { size ≤ length r.now }
+#[tactic(auto, unfolding(lent::specs::Place::window))]
+fn are_limits(r: &Region<'_>) -> bool
     ensures { result ≡ pool.fit (pool_in r.now) }
 {
     region::acceptable(
-        lent::part(r, region::layout::SHARES, region::layout::HOLDERS),
-        lent::part(r, region::layout::CEILINGS, region::layout::HOLDERS),
+        &r.bytes[SHARES..SHARES + HOLDERS],
+        &r.bytes[CEILINGS..CEILINGS + HOLDERS],
     )
 }
 
 // The four tests in order.
-fn is_sound_in(r: &[u8]) -> bool
-    requires { size ≤ length r.now }
+#[tactic(auto, unfolding(region::specs::Sound::sound_in))]
+fn is_sound_in(r: &Region<'_>) -> bool
     ensures { result ≡ sound_in r.now }
 {
-    if !are_limits(r) {
-        return false;
-    }
-    if !are_holdings(r) {
-        return false;
-    }
-    if !is_counted(r) {
-        return false;
-    }
-    are_lists(r)
+    are_limits(r) && are_holdings(r) && is_counted(r) && are_lists(r)
 }
 
 // Whether the region is there, and sound. Takes any bytes.
+#[tactic(auto, unfolding(region::specs::Sound::sound))]
 pub fn is_sound(r: &[u8]) -> bool
     ensures { result ≡ rules.sound r.now }
 {
-    if r.len() < region::layout::SIZE {
-        return false;
+    match Region::of(r) {
+        Some(region) => is_sound_in(&region),
+        None => false,
     }
-    is_sound_in(r)
 }

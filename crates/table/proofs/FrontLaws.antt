@@ -2,13 +2,14 @@
 -- with any bytes d behind it. Assumes nothing.
 use mathlib.Core.Path.{◌≡◌, refl, sym, ap, ap₂, ◌∙◌}
 use mathlib.Core.Bool.{Bool, true, false, cond, ◌&&◌}
-use mathlib.Core.List.{List, [], ◌∷◌, ◌++◌, append_assoc}
+use mathlib.Core.List.{List, [], ◌++◌, append_assoc}
 use Prim.Native.Nat.{ℕ, zero, suc, ◌+◌, ◌≤◌, ◌<◌, min}
 use native.Mathlib.Omega.{arith}
 use lib.Dec.{ltb, leb}
-use lib.ListN.{length, take, drop, get_or, length-append, length-drop}
+use lib.ListN.{length, take, drop, length-append, length-drop}
 use lib.Seq.{take-append-le, drop-append-le}
 use borrow.Author.Tests.{le-leb, leb-true, ltb-true}
+use Rattle.std.proofs.lemmas.List.{get_or_append_left}
 use Rattle.lent.specs.Place.{window, splice}
 use Rattle.lent.specs.Number.{number_of, number_at}
 use Rattle.lent.specs.Fold.{all}
@@ -45,11 +46,6 @@ module _ (f d : List ℕ) (a : ℕ) where
       ∙ sym (append_assoc (take a f ++ xs) (drop e f) d)
       ∙ ap (λ (l : List ℕ). l ++ d) (sym (splice_in f a xs h))
 
-pub byte_front : (f d : List ℕ) (a : ℕ) → a < length f → get_or (f ++ d) a 0 ≡ get_or f a 0
-byte_front [] d a h = absurd (omega arith)
-byte_front (x ∷ f) d zero h = refl
-byte_front (x ∷ f) d (suc a) h = byte_front f d a (omega arith)
-
 -- ---- under a test
 
 read_under : (b : Bool) {x y : List ℕ} → (b ≡ true → x ≡ y) → cond b x [] ≡ cond b y []
@@ -72,9 +68,9 @@ module _ (f d : List ℕ) (long : table_size ≤ length f) where
   unfolding headed
   headed_front =
       rw (
-        byte_front f d 0 (omega arith),
-        byte_front f d 1 (omega arith),
-        byte_front f d 2 (omega arith),
+        get_or_append_left f d 0 0 (omega arith),
+        get_or_append_left f d 0 1 (omega arith),
+        get_or_append_left f d 0 2 (omega arith),
         number_front f d version_at 2 (omega arith),
       )
 

@@ -6,58 +6,38 @@ ghost use Rattle.region.specs.Layout.{holders};
 ghost use Rattle.table.specs.Sound.{headed, slot_sound};
 ghost use Rattle.table.specs.Sound as rules;
 
+use super::{layout, places};
+
 // The mark TBL and the version 1.
+#[tactic(auto, unfolding(crate::specs::Sound::headed))]
 fn is_headed(t: &[u8]) -> bool
     ensures { result ≡ headed t.now }
 {
-    if numbers::get8(t, super::layout::MARK) != 0x54 {
-        return false;
-    }
-    if numbers::get8(t, super::layout::MARK + 1) != 0x42 {
-        return false;
-    }
-    if numbers::get8(t, super::layout::MARK + 2) != 0x4C {
-        return false;
-    }
-    numbers::get16(t, super::layout::VERSION) == 1
+    t.starts_with(b"TBL") && numbers::get16(t, layout::VERSION) == 1
 }
 
 // Slot i's own part: its entry names a slot, and that fits the cells that it holds.
+#[tactic(auto, unfolding(crate::specs::Sound::slot_sound))]
 fn is_slot_sound(t: &[u8], i: usize) -> bool
     ensures { result ≡ slot_sound t.now i }
 {
-    let w = super::places::entry(t, i);
-    if entry::is_formed(w) {
-        return slot::is_fit(entry::slot(w), region::held(super::places::pool(t), i));
-    }
-    false
+    let w = places::entry(t, i);
+    entry::is_formed(w) && slot::is_fit(entry::slot(w), region::held(places::pool(t), i))
 }
 
 fn are_slots_sound(t: &[u8]) -> bool
     ensures { result ≡ all holders (slot_sound t.now) }
 {
-    let mut i: usize = 0;
-    while i < region::layout::HOLDERS {
-        if !is_slot_sound(t, i) {
-            return false;
-        }
-        i += 1;
-    }
-    true
+    (0..region::layout::HOLDERS).all(|i| is_slot_sound(t, i))
 }
 
 // Whether the table is there, and sound. Takes any bytes.
+#[tactic(auto, unfolding(crate::specs::Sound::sound))]
 pub fn is_sound(t: &[u8]) -> bool
     ensures { result ≡ rules.sound t.now }
 {
-    if t.len() < super::layout::TABLE {
-        return false;
-    }
-    if !is_headed(t) {
-        return false;
-    }
-    if !sound::is_sound(super::places::pool(t)) {
-        return false;
-    }
-    are_slots_sound(t)
+    layout::TABLE <= t.len()
+        && is_headed(t)
+        && sound::is_sound(places::pool(t))
+        && are_slots_sound(t)
 }

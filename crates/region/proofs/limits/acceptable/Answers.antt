@@ -19,7 +19,7 @@ told shares ceilings i e f g = sym (rw (← f, ← g) e)
 
 pub loop-i-init : goal.loop-i-init
 unfolding all sum
-loop-i-init c = (omega arith, omega arith, refl, refl)
+loop-i-init c = (omega arith, refl, refl)
 
 pub returns-then-not-in_order : goal.returns-then-not-in_order
 unfolding fit
@@ -37,9 +37,8 @@ loop-i-preserved c =
     let l = c.loop-i in
     let e : limit K l.i ≡ true = told a.shares.now a.ceilings.now l.i c.in_order.ensures c.get8-share.ensures c.get8.ensures ∙ c.if-not-in_order.false in (
       omega arith,
-      omega (arith, c.wide-total.ensures.1),
-      all_next (limit K) l.i ∙ rw (l.invariant.2, e),
-      ap₂ ◌+◌ l.invariant.3 (c.wide-total.ensures.0 ∙ c.get8-share.ensures) ∙ sym (sum_next K.share l.i),
+      all_next (limit K) l.i ∙ rw (l.invariant.1, e),
+      ap₂ ◌+◌ l.invariant.2 (c.from-total.ensures ∙ c.get8-share.ensures) ∙ sym (sum_next K.share l.i),
     )
 
 pub returns : goal.returns
@@ -48,4 +47,4 @@ returns c =
     let a = c.args in
     let K = pool_of a.shares.now a.ceilings.now in
     let l = c.loop-i in
-    rw (all_end (limit K) l.i holders (omega arith) l.invariant.2, sum_end K.share l.i holders l.total (omega arith) l.invariant.3)
+    rw (all_end (limit K) l.i holders (omega arith) l.invariant.1, sum_end K.share l.i holders l.total (omega arith) l.invariant.2)

@@ -1,9 +1,9 @@
-use Prim.Native.Nat.{ℕ, ◌*◌, ◌-◌, ◌≤◌}
+use Prim.Native.Nat.{ℕ, ◌*◌, ◌≤◌}
 use mathlib.Core.Path.{◌≡◌}
 use mathlib.Core.Bool.{Bool, true}
 use mathlib.Core.List.{List}
 use lib.Dec.{leb}
-use Rattle.region.specs.Layout.{holders, held, pool_in}
+use Rattle.region.specs.Layout.{held, pool_in}
 use Rattle.shares.specs.Pool.{lack}
 use Rattle.lent.specs.Fold.{all, sum}
 use Rattle.sound.proofs.sound.are_holdings.Given as goal
@@ -13,7 +13,4 @@ under r j = leb (held r j) ((pool_in r).ceiling j)
 
 abbrev pub invariant-loop-j : goal.invariant-loop-j
 invariant-loop-j l =
-    (l.j ≤ holders) × (l.total ≤ 255 * l.j) × (l.lacking ≤ 255 * l.j) × (all l.j (under l.r) ≡ true) × (l.total ≡ sum l.j (held l.r)) × (l.lacking ≡ sum l.j (lack (pool_in l.r) (held l.r)))
-
-abbrev pub decreases-loop-j : goal.decreases-loop-j
-decreases-loop-j l = holders - l.j
+    (l.total ≤ 255 * l.j) × (l.lacking ≤ 255 * l.j) × (all l.j (under l.r) ≡ true) × (l.total ≡ sum l.j (held l.r)) × (l.lacking ≡ sum l.j (lack (pool_in l.r) (held l.r)))

@@ -20,12 +20,12 @@ returns c =
     let t = a.t.now in
     let sh = a.shares.now in
     let ce = a.ceilings.now in
-    let ls : length sh ≡ holders = c.requires.table_size_in_bounds.1 in
-    let lc : length ce ≡ holders = c.requires.table_size_in_bounds.2 in
+    let ls : length sh ≡ holders = omega arith in
+    let lc : length ce ≡ holders = omega arith in
     let t1 : List ℕ = c.put.new.t in
     let e1 : t1 ≡ splice t 0 head = c.put.ensures.t_after in
     let r : List ℕ = c.lay_out.new.r in
     let n : length r ≡ size = c.lay_out.auto.r ∙ length-window t1 pool_at size (omega arith) in
-    let e2 : r ≡ pool.fresh sh ce = c.lay_out.ensures.r_after ∙ region_laid sh ce ls lc (window t1 pool_at size) (length-window t1 pool_at size (omega arith)) c.requires.ceilings_value in
+    let e2 : r ≡ pool.fresh sh ce = c.lay_out.ensures.r_after ∙ region_laid sh ce ls lc (window t1 pool_at size) (length-window t1 pool_at size (omega arith)) c.requires.fits in
     let h : put_mid pool_at size t1 r ≡ splice (splice t 0 head) pool_at (pool.fresh sh ce) = lent_back t1 pool_at size r n (omega arith) ∙ ap₂ (λ (l q : List ℕ). splice l pool_at q) e1 e2 in
-    c.fill.ensures.t_after ∙ ap (λ (l : List ℕ). splice l slots_at (replicate (table_size - slots_at) 0)) h ∙ fresh_steps sh ce ls lc t c.requires.table_size_in_bounds.0
+    c.fill.ensures.t_after ∙ ap (λ (l : List ℕ). splice l slots_at (replicate (table_size - slots_at) 0)) h ∙ fresh_steps sh ce ls lc t c.requires.long
