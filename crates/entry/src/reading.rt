@@ -5,6 +5,7 @@ ghost use Rattle.entry.specs.Entry.{line_in, cut_in, last_in, turn_in, talk_in, 
 
 use super::layout;
 use super::states::State;
+use numbers::Number;
 use slot::{Cut, Last, Line, Slot, Talk, Turn};
 
 // IFSC, BWT, s and r.
@@ -13,10 +14,10 @@ pub fn line(w: &[u8]) -> Line
     ensures { result ≡ line_in w.now }
 {
     Line {
-        ifsc: numbers::get8(w, layout::IFSC),
-        bwt: u32::from(numbers::get16(w, layout::BWT)),
-        s: numbers::get8(w, layout::S),
-        r: numbers::get8(w, layout::R),
+        ifsc: u8::get(w, layout::IFSC),
+        bwt: u32::from(u16::get(w, layout::BWT)),
+        s: u8::get(w, layout::S),
+        r: u8::get(w, layout::R),
     }
 }
 
@@ -24,7 +25,7 @@ pub fn line(w: &[u8]) -> Line
 pub fn sent(w: &[u8]) -> u32
     ensures { result ≡ sent_in w.now }
 {
-    u32::from(numbers::get16(w, layout::SENT))
+    u32::from(u16::get(w, layout::SENT))
 }
 
 #[tactic(auto, unfolding(crate::specs::Entry::cut_in))]
@@ -32,9 +33,9 @@ fn cut(w: &[u8]) -> Cut
     ensures { result ≡ cut_in w.now }
 {
     Cut {
-        whole: usize::from(numbers::get16(w, layout::WHOLE)),
-        from: usize::from(numbers::get16(w, layout::FROM)),
-        len: usize::from(numbers::get8(w, layout::LEN)),
+        whole: usize::from(u16::get(w, layout::WHOLE)),
+        from: usize::from(u16::get(w, layout::FROM)),
+        len: usize::from(u8::get(w, layout::LEN)),
     }
 }
 
@@ -42,13 +43,13 @@ fn cut(w: &[u8]) -> Cut
 fn last(w: &[u8]) -> Last
     ensures { result ≡ last_in w.now }
 {
-    let value = numbers::get8(w, layout::VALUE);
-    match numbers::get8(w, layout::LAST) {
+    let value = u8::get(w, layout::VALUE);
+    match u8::get(w, layout::LAST) {
         0 => Last::I,
         1 => Last::R { nibble: value },
         _ => Last::S {
             pcb: value,
-            byte: numbers::get8(w, layout::BYTE),
+            byte: u8::get(w, layout::BYTE),
         },
     }
 }
@@ -59,8 +60,8 @@ fn turn(w: &[u8]) -> Turn
 {
     Turn {
         last: last(w),
-        go: numbers::get8(w, layout::GO),
-        requests: u32::from(numbers::get8(w, layout::REQUESTS)),
+        go: u8::get(w, layout::GO),
+        requests: u32::from(u8::get(w, layout::REQUESTS)),
         sent: sent(w),
     }
 }
@@ -73,7 +74,7 @@ pub fn talk(w: &[u8]) -> Talk
     Talk {
         line: line(w),
         cut: cut(w),
-        acked: numbers::get8(w, layout::ACKED) == 1,
+        acked: u8::get(w, layout::ACKED) == 1,
         turn: turn(w),
     }
 }
@@ -82,7 +83,7 @@ pub fn talk(w: &[u8]) -> Talk
 pub fn state(w: &[u8]) -> Option<State>
     ensures { Names (state_in w.now) result }
 {
-    State::try_from(numbers::get8(w, layout::STATE)).ok()
+    State::try_from(u8::get(w, layout::STATE)).ok()
 }
 
 // The slot, by its state.
@@ -108,7 +109,5 @@ pub fn slot(w: &[u8]) -> Slot
 pub fn is_formed(w: &[u8]) -> bool
     ensures { result ≡ formed w.now }
 {
-    state(w).is_some()
-        && numbers::get8(w, layout::ACKED) <= 1
-        && numbers::get8(w, layout::LAST) <= 2
+    state(w).is_some() && u8::get(w, layout::ACKED) <= 1 && u8::get(w, layout::LAST) <= 2
 }

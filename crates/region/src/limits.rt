@@ -4,6 +4,7 @@ ghost use Rattle.shares.specs.Pool.{fit};
 ghost use Rattle.region.specs.Layout.{cells, pool_of};
 
 use super::layout::{CELLS, HOLDERS};
+use numbers::Number;
 
 // No share above its ceiling, no ceiling above the cells.
 fn in_order(share: u8, ceiling: u8) -> bool
@@ -19,8 +20,8 @@ pub fn acceptable(shares: &[u8], ceilings: &[u8]) -> bool
 {
     let mut total = 0;
     for i in 0..HOLDERS {
-        let share = numbers::get8(shares, i);
-        if !in_order(share, numbers::get8(ceilings, i)) {
+        let share = u8::get(shares, i);
+        if !in_order(share, u8::get(ceilings, i)) {
             return false;
         }
         total += usize::from(share);

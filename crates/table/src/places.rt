@@ -6,6 +6,7 @@ ghost use Rattle.table.specs.Layout.{pool_in, entry_in, command_in, with_slot, w
 ghost use Rattle.table.specs.Layout as rules;
 
 use super::layout;
+use numbers::Number;
 use slot::Slot;
 
 // The pool's region.
@@ -43,7 +44,7 @@ pub fn entry(t: &[u8], i: usize) -> &[u8]
 pub fn command(t: &[u8], i: usize) -> &[u8]
     ensures { result.now ≡ command_in t.now i }
 {
-    let whole = usize::from(numbers::get16(entry(t, i), entry::layout::WHOLE));
+    let whole = usize::from(u16::get(entry(t, i), entry::layout::WHOLE));
     match slot_at(i) {
         Some(at) => lent::part(t, at + layout::COMMAND, whole.min(layout::COMMAND_SIZE)),
         None => &[],

@@ -7,13 +7,14 @@ ghost use Rattle.table.specs.Sound.{headed, slot_sound};
 ghost use Rattle.table.specs.Sound as rules;
 
 use super::{layout, places};
+use numbers::Number;
 
 // The mark TBL and the version 1.
 #[tactic(auto, unfolding(crate::specs::Sound::headed))]
 fn is_headed(t: &[u8]) -> bool
     ensures { result ≡ headed t.now }
 {
-    t.starts_with(b"TBL") && numbers::get16(t, layout::VERSION) == 1
+    t.starts_with(b"TBL") && u16::get(t, layout::VERSION) == 1
 }
 
 // Slot i's own part: its entry names a slot, and that fits the cells that it holds.

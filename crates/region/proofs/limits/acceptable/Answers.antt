@@ -27,7 +27,7 @@ returns-then-not-in_order c =
     let a = c.args in
     let K = pool_of a.shares.now a.ceilings.now in
     let l = c.loop-i in
-    let e : limit K l.i ≡ false = told a.shares.now a.ceilings.now l.i c.in_order.ensures c.get8-share.ensures c.get8.ensures ∙ c.if-not-in_order.true in
+    let e : limit K l.i ≡ false = told a.shares.now a.ceilings.now l.i c.in_order.ensures c.get-share.ensures c.get.ensures ∙ c.if-not-in_order.true in
     sym (ap (λ (b : Bool). b && leb (sum holders K.share) cells) (all_fails (limit K) holders l.i (omega arith) e))
 
 pub loop-i-preserved : goal.loop-i-preserved
@@ -35,10 +35,10 @@ loop-i-preserved c =
     let a = c.args in
     let K = pool_of a.shares.now a.ceilings.now in
     let l = c.loop-i in
-    let e : limit K l.i ≡ true = told a.shares.now a.ceilings.now l.i c.in_order.ensures c.get8-share.ensures c.get8.ensures ∙ c.if-not-in_order.false in (
+    let e : limit K l.i ≡ true = told a.shares.now a.ceilings.now l.i c.in_order.ensures c.get-share.ensures c.get.ensures ∙ c.if-not-in_order.false in (
       omega arith,
       all_next (limit K) l.i ∙ rw (l.invariant.1, e),
-      ap₂ ◌+◌ l.invariant.2 (c.from-total.ensures ∙ c.get8-share.ensures) ∙ sym (sum_next K.share l.i),
+      ap₂ ◌+◌ l.invariant.2 (c.from-total.ensures ∙ c.get-share.ensures) ∙ sym (sum_next K.share l.i),
     )
 
 pub returns : goal.returns
