@@ -8,5 +8,5 @@ mod states;
 mod writing;
 
 pub use reading::{is_formed, line, sent, slot, state, talk};
-pub use states::State;
+pub use states::{State, UnknownState};
 pub use writing::bytes;
