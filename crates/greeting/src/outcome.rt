@@ -9,23 +9,20 @@ pub fn rest(slot: Slot, sent: u32) -> Next
     ensures { result ≡ rests slot sent }
 {
     Next {
-        slot: slot,
+        slot,
         send: Send::Nothing,
-        sent: sent,
+        sent,
         wait: 0,
         ending: 0,
     }
 }
 
-// The session ends.
+// The session ends. Any number is taken: `ends` speaks of every one, and the calls pass 20 to 24.
 pub fn end(ending: u8, sent: u32) -> Next
     ensures { result ≡ ends ending sent }
 {
     Next {
-        slot: Slot::Ended,
-        send: Send::Nothing,
-        sent: sent,
-        wait: 0,
-        ending: ending,
+        ending,
+        ..rest(Slot::Ended, sent)
     }
 }

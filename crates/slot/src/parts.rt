@@ -56,6 +56,7 @@ pub enum Slot {
 }
 
 // A block to send: an I-block of `len` bytes of the command from the byte `from`, an R-block, or an S-block with its byte.
+// `Nothing` is one of four cases on a par: `send` writes each, and an Option around three would be a second match there.
 #[derive(Clone, Copy, Debug, PartialEq, Eq)]
 pub enum Send {
     Nothing,
