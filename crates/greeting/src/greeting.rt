@@ -2,6 +2,7 @@
 ghost use Rattle.std.specs.Prelude.{◌≡◌};
 ghost use Rattle.greeting.specs.Greeting.{greets, attached, while_greeting};
 
+use crate::outcome::{Ending, end, rest};
 use atr::Report;
 use block::Event;
 use slot::{Line, Next, Send, Slot};
@@ -42,9 +43,9 @@ pub fn greet(line: Line, sent: u32, e: Event) -> Next
     ensures { result ≡ while_greeting line sent e }
 {
     match e {
-        Event::IfsResponse { size: 0xFE } => super::outcome::rest(Slot::Ready { line }, sent),
-        Event::Abort => super::outcome::end(22, sent),
+        Event::IfsResponse { size: 0xFE } => rest(Slot::Ready { line }, sent),
+        Event::Abort => end(Ending::Abort as u8, sent),
         _ if sent < 3 => send_greeting(line, sent + 1),
-        _ => super::outcome::end(21, sent),
+        _ => end(Ending::Goes as u8, sent),
     }
 }

@@ -17,7 +17,17 @@ pub fn rest(slot: Slot, sent: u32) -> Next
     }
 }
 
-// The session ends. Any number is taken: `ends` speaks of every one, and the calls pass 20 to 24.
+// Why a session ended, by the number that its answer gives.
+#[derive(Clone, Copy, Debug, PartialEq, Eq)]
+pub enum Ending {
+    NoCell = 20,
+    Goes = 21,
+    Abort = 22,
+    OneByte = 23,
+    Requests = 24,
+}
+
+// The session ends. Any number is taken, since `ends` speaks of each; those that are passed are of an `Ending`.
 pub fn end(ending: u8, sent: u32) -> Next
     ensures { result ≡ ends ending sent }
 {

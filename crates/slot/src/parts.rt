@@ -66,6 +66,7 @@ pub enum Send {
 }
 
 // The next slot, what to send, and what the answer tells.
+// `ending` is 0, or the number of why the session ended; `said_with` speaks of every number.
 #[derive(Clone, Copy, Debug, PartialEq, Eq)]
 pub struct Next {
     pub slot: Slot,
