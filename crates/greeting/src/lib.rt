@@ -5,4 +5,4 @@ mod greeting;
 mod outcome;
 
 pub use greeting::{attach, greet};
-pub use outcome::{end, rest};
+pub use outcome::{Ending, end, rest};

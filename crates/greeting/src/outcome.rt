@@ -9,23 +9,30 @@ pub fn rest(slot: Slot, sent: u32) -> Next
     ensures { result ≡ rests slot sent }
 {
     Next {
-        slot: slot,
+        slot,
         send: Send::Nothing,
-        sent: sent,
+        sent,
         wait: 0,
         ending: 0,
     }
 }
 
-// The session ends.
+// Why a session ended, by the number that its answer gives.
+#[derive(Clone, Copy, Debug, PartialEq, Eq)]
+pub enum Ending {
+    NoCell = 20,
+    Goes = 21,
+    Abort = 22,
+    OneByte = 23,
+    Requests = 24,
+}
+
+// The session ends. Any number is taken, since `ends` speaks of each; those that are passed are of an `Ending`.
 pub fn end(ending: u8, sent: u32) -> Next
     ensures { result ≡ ends ending sent }
 {
     Next {
-        slot: Slot::Ended,
-        send: Send::Nothing,
-        sent: sent,
-        wait: 0,
-        ending: ending,
+        ending,
+        ..rest(Slot::Ended, sent)
     }
 }

@@ -2,7 +2,7 @@
 
 // What runs on through later commands until remove: IFSC, BWT, s the number of the last I-block sent, r the number
 // expected from the card.
-#[derive(Clone, Copy)]
+#[derive(Clone, Copy, Debug, PartialEq, Eq)]
 pub struct Line {
     pub ifsc: u8,
     pub bwt: u32,
@@ -12,7 +12,7 @@ pub struct Line {
 
 // The last I-block sent: `len` bytes of a command of `whole` bytes, from the byte `from`. A repeat is cut there again,
 // whatever IFSC has become.
-#[derive(Clone, Copy)]
+#[derive(Clone, Copy, Debug, PartialEq, Eq)]
 pub struct Cut {
     pub whole: usize,
     pub from: usize,
@@ -20,7 +20,7 @@ pub struct Cut {
 }
 
 // The last block sent: the last I-block, R(r) with this low nibble, or the answer to a request.
-#[derive(Clone, Copy)]
+#[derive(Clone, Copy, Debug, PartialEq, Eq)]
 pub enum Last {
     I,
     R { nibble: u8 },
@@ -28,7 +28,7 @@ pub enum Last {
 }
 
 // The last block sent and its go, the card's requests and the blocks sent since the command.
-#[derive(Clone, Copy)]
+#[derive(Clone, Copy, Debug, PartialEq, Eq)]
 pub struct Turn {
     pub last: Last,
     pub go: u8,
@@ -37,7 +37,7 @@ pub struct Turn {
 }
 
 // A command under way. The standing block is the last I-block, or R(r) error-free if `acked`.
-#[derive(Clone, Copy)]
+#[derive(Clone, Copy, Debug, PartialEq, Eq)]
 pub struct Talk {
     pub line: Line,
     pub cut: Cut,
@@ -45,7 +45,7 @@ pub struct Talk {
     pub turn: Turn,
 }
 
-#[derive(Clone, Copy)]
+#[derive(Clone, Copy, Debug, PartialEq, Eq)]
 pub enum Slot {
     Empty,
     Greeting { line: Line, sent: u32 },
@@ -56,7 +56,8 @@ pub enum Slot {
 }
 
 // A block to send: an I-block of `len` bytes of the command from the byte `from`, an R-block, or an S-block with its byte.
-#[derive(Clone, Copy)]
+// `Nothing` is one of four cases on a par: `send` writes each, and an Option around three would be a second match there.
+#[derive(Clone, Copy, Debug, PartialEq, Eq)]
 pub enum Send {
     Nothing,
     I { pcb: u8, from: usize, len: usize },
@@ -65,7 +66,8 @@ pub enum Send {
 }
 
 // The next slot, what to send, and what the answer tells.
-#[derive(Clone, Copy)]
+// `ending` is 0, or the number of why the session ended; `said_with` speaks of every number.
+#[derive(Clone, Copy, Debug, PartialEq, Eq)]
 pub struct Next {
     pub slot: Slot,
     pub send: Send,

@@ -1,4 +1,3 @@
--- Laws of an I-block: what the code's proofs cite, and that it shows the paper's rows.
-pub mod SafeLaws
+-- Laws of an I-block: that it shows the paper's rows, and that each promise settles its answer.
 pub mod ViewLaws
 pub mod Settled

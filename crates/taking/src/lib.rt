@@ -4,5 +4,6 @@
 
 mod calls;
 mod rows;
+mod safe;
 
 pub use calls::{asks_cell, take};
