@@ -5,6 +5,7 @@ ghost use Rattle.turn.specs.Rows.{on_r, on_request, while_busy};
 use crate::safe::SafeTalk;
 use crate::sending::{EDC_FAULT, OTHER_FAULT};
 use block::Event;
+use greeting::Ending;
 use slot::{Last, Line, Next, Send, Talk, Turn};
 
 impl SafeTalk {
@@ -43,7 +44,7 @@ impl SafeTalk {
             };
             counted.send_new(Last::S { pcb, byte }, Send::S { pcb, byte }, wait)
         } else {
-            greeting::end(24, turn.sent)
+            greeting::end(Ending::Requests as u8, turn.sent)
         }
     }
 
@@ -57,7 +58,7 @@ impl SafeTalk {
             Event::R { number } => self.on_r(number),
             Event::IfsRequest { size } => self.on_request(size, 0xE1, size, bwt),
             Event::Wtx { times } => self.on_request(ifsc, 0xE3, times, u32::from(times) * bwt),
-            Event::Abort => greeting::end(22, self.talk.turn.sent),
+            Event::Abort => greeting::end(Ending::Abort as u8, self.talk.turn.sent),
             Event::Edc => self.answer_invalid(EDC_FAULT),
             Event::I { .. } | Event::IfsResponse { .. } | Event::Other => {
                 self.answer_invalid(OTHER_FAULT)

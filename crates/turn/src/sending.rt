@@ -4,6 +4,7 @@ ghost use Rattle.greeting.specs.Sending.{sent_at, goes_out, newly};
 ghost use Rattle.turn.specs.Sending.{again, in_place, invalid};
 
 use crate::safe::SafeTalk;
+use greeting::Ending;
 use slot::{Last, Next, Send, Slot, Talk, Turn};
 
 // The low nibble of an R-block: what it tells of the block before it. `Last::R` keeps it as the number that is sent, which
@@ -52,7 +53,7 @@ impl SafeTalk {
         if turn.go < 3 {
             self.go_out(last, turn.go + 1, send, line.bwt)
         } else {
-            greeting::end(21, turn.sent)
+            greeting::end(Ending::Goes as u8, turn.sent)
         }
     }
 
