@@ -2,12 +2,13 @@
 use Prim.Native.Nat.{ℕ, ◌+◌, ◌-◌, ◌*◌, ◌/◌, ◌≤◌}
 use mathlib.Core.Path.{◌≡◌, refl, sym, ap, ◌∙◌}
 use mathlib.Core.Bool.{Bool, true, false, cond, not, ◌&&◌}
-use mathlib.Core.List.{List, [], ◌∷◌, ◌++◌}
+use mathlib.Core.List.{List, [], ◌++◌}
 use native.Mathlib.Omega.{arith}
 use lib.Dec.{ltb, leb, eqb}
 use lib.ListN.{length, take, drop, length-drop, take-append-drop, drop_of_length-le}
 use lib.Seq.{drop-drop}
 use borrow.Author.Tests.{leb-true, le-leb, ltb-false, le-ltb, eqb-true, eq-eqb, not-true}
+use Rattle.std.proofs.lemmas.List.{nil_from_length}
 use Rattle.lent.specs.Place.{window}
 use Rattle.lent.proofs.Cases.{cond_case, and_left, and_right, and_true}
 use Rattle.lent.proofs.PlaceLaws.{length-window}
@@ -313,16 +314,12 @@ state_no_lem (Busy t) command got = refl
 state_no_lem (Done l) command got = refl
 state_no_lem Ended command got = refl
 
-none : (got : List (List ℕ)) → length got ≡ 0 → [] ≡ got
-none [] e = refl
-none (p ∷ ps) e = absurd (omega arith)
-
 -- the pieces, of a slot that fits
 pub got_shown : (x : Slot) (command : List ℕ) (got : List (List ℕ)) → fits x (length got) ≡ true → got_in (state_of x command got) ≡ got
 unfolding fits state_of
-got_shown Empty command got e = none got (eqb-true (length got) 0 e)
-got_shown (Greeting l sent) command got e = none got (eqb-true (length got) 0 (and_left _ _ e))
-got_shown (Ready l) command got e = none got (eqb-true (length got) 0 (and_left _ _ e))
+got_shown Empty command got e = sym (nil_from_length got (eqb-true (length got) 0 e))
+got_shown (Greeting l sent) command got e = sym (nil_from_length got (eqb-true (length got) 0 (and_left _ _ e)))
+got_shown (Ready l) command got e = sym (nil_from_length got (eqb-true (length got) 0 (and_left _ _ e)))
 got_shown (Busy t) command got e = refl
 got_shown (Done l) command got e = refl
-got_shown Ended command got e = none got (eqb-true (length got) 0 e)
+got_shown Ended command got e = sym (nil_from_length got (eqb-true (length got) 0 e))

@@ -55,6 +55,7 @@ pub fn is_in_range(t: Talk) -> bool
 }
 
 // The blocks sent are no more than the goes of those that started at go 1, with those that are still to come.
+// The counts are cast by `as`, since usize has no From<u32>.
 #[tactic(auto, unfolding(crate::specs::Fit::steps_fit))]
 fn are_steps_fit(t: Talk, held: u8) -> bool
     requires { InRange t }
