@@ -74,19 +74,23 @@ bounded a h few e =
       historical = few;
     }
 
+-- what holds of each number, and of 0 where none applies, holds of an ATR's
+each_number : (s : List ℕ) (P : ℕ → Type 0) → P 8 → P 9 → P 10 → P 11 → P 12 → (parameter_refused (interface_of s) ≡ false → P 0) → P (number_of s)
+unfolding number_of terms_of
+each_number s P start length check protocol parameter none =
+    cond_case P (start_wrong s) (λ _. start)
+    (λ _. cond_case P (length_wrong s) (λ _. length)
+    (λ _. cond_case P (check_wrong s (end_of s).tck) (λ _. check)
+    (λ _. cond_case P (not_t1 (interface_of s)) (λ _. protocol)
+    (λ _. cond_case P (parameter_refused (interface_of s)) (λ _. parameter) none))))
+
 -- for every ATR, what its answer tells
 pub answer-told : (s : List ℕ) → Told (answer_of s)
-unfolding answer_of number_of terms_of
+unfolding answer_of
 answer-told s =
-    cond_case P (start_wrong s) {x = 8} (λ _. (omega arith, omega arith))
-    (λ _. cond_case P (length_wrong s) {x = 9} (λ _. (omega arith, omega arith))
-    (λ _. cond_case P (check_wrong s (end_of s).tck) {x = 10} (λ _. (omega arith, omega arith))
-    (λ _. cond_case P (not_t1 (interface_of s)) {x = 11} (λ _. (omega arith, omega arith))
-    (λ _. cond_case P (parameter_refused (interface_of s)) {x = 12} (λ _. (omega arith, omega arith))
-    (λ e. bounded (interface_of s) (historical s) (omega arith) e)))))
-  where
-    P : ℕ → Type 0
-    P n = Told (answered n (report_of (interface_of s) (historical s)))
+    each_number s (λ (n : ℕ). Told (answered n (report_of (interface_of s) (historical s))))
+    (omega arith, omega arith) (omega arith, omega arith) (omega arith, omega arith) (omega arith, omega arith) (omega arith, omega arith)
+    (bounded (interface_of s) (historical s) (omega arith))
 
 -- ---- the paper's number and values
 
@@ -99,16 +103,7 @@ refusal_number-ne0 Protocol = refl
 refusal_number-ne0 Parameter = refl
 
 number_in_lem : (s : List ℕ) (r : Report) → number_in (answered (number_of s) r) ≡ number_of s
-unfolding number_of terms_of
-number_in_lem s r =
-    cond_case P (start_wrong s) {x = 8} (λ _. refl)
-    (λ _. cond_case P (length_wrong s) {x = 9} (λ _. refl)
-    (λ _. cond_case P (check_wrong s (end_of s).tck) {x = 10} (λ _. refl)
-    (λ _. cond_case P (not_t1 (interface_of s)) {x = 11} (λ _. refl)
-    (λ _. cond_case P (parameter_refused (interface_of s)) {x = 12} {y = 0} (λ _. refl) (λ _. refl)))))
-  where
-    P : ℕ → Type 0
-    P n = number_in (answered n r) ≡ n
+number_in_lem s r = each_number s (λ (n : ℕ). number_in (answered n r) ≡ n) refl refl refl refl refl (λ _. refl)
 
 report_in_lem : (n : ℕ) (r : Report) → report_in (answered n r) ≡ cond (eqb n 0) r zeros
 report_in_lem n r = cond_by (eqb n 0)

@@ -3,7 +3,7 @@ ghost use Rattle.std.specs.Prelude.{◌≡◌};
 ghost use Rattle.atr.specs.Rules.{start_wrong, check_wrong};
 ghost use Rattle.atr.specs.Answer.{number_of, values_of, number_in, report_in, answer_of};
 
-use crate::walk::{announced_length, interface_bytes, to_end};
+use crate::walk::{interface_bytes, to_end};
 use atr::{Refusal, Report};
 use numbers::Number;
 
@@ -24,6 +24,7 @@ fn is_check_wrong(s: &[u8], tck: bool) -> bool
 }
 
 // Reads an ATR: any bytes, of any number. The answer has the paper's number and the paper's values.
+#[tactic(auto, unfolding(atr::specs::Answer::answer_of, atr::specs::Answer::number_of, atr::specs::Answer::values_of, atr::specs::Rules::length_wrong))]
 pub fn read(s: &[u8]) -> Result<Report, Refusal>
     ensures value { result ≡ answer_of s.now }
     ensures number { number_in result ≡ number_of s.now }
@@ -37,7 +38,8 @@ pub fn read(s: &[u8]) -> Result<Report, Refusal>
     }
     let historical = u8::get(s, 1) % 16;
     let end = to_end(s);
-    if s.len() != announced_length(end, historical) {
+    let announced = end.at + usize::from(historical) + usize::from(end.tck);
+    if s.len() != announced {
         return Err(Refusal::Length);
     }
     if is_check_wrong(s, end.tck) {

@@ -1,6 +1,6 @@
 // The walk over an ATR's bytes: the groups that T0 and each TDi announce, what is read of them, and where they end.
 ghost use Rattle.std.specs.Prelude.{◌≡◌, ◌+◌, ◌≤◌, length};
-ghost use Rattle.atr.specs.Walk.{t0, announced, field_at, walk_from, walk_of, behind, interface_of, end_of, length_of};
+ghost use Rattle.atr.specs.Walk.{t0, announced, field_at, walk_from, walk_of, behind, interface_of, end_of};
 
 use atr::walk::{ABSENT, End, Group, Interface};
 use numbers::Number;
@@ -45,6 +45,7 @@ impl<'a> Walk<'a> {
         ensures value { result ≡ behind 0 (walk_from self.old.s.now self.old.at self.old.td).groups }
         ensures td_bound { result.td ≤ 256 }
         ensures s_after { self.new.s.now ≡ self.old.s.now }
+        ensures at_bound { self.new.at ≤ self.old.at + 4 }
         ensures at_after { self.new.at ≡ self.old.at + length (announced self.old.td) }
         ensures td_after { self.new.td ≡ result.td }
     {
@@ -97,12 +98,4 @@ pub(crate) fn to_end(s: &[u8]) -> End
         tck |= g.td % 16 != 0;
     }
     End { at: walk.at, tck }
-}
-
-// The length that the ATR announces.
-pub(crate) fn announced_length(end: End, historical: u8) -> usize
-    requires { end.at ≤ 2000 }
-    ensures { result ≡ length_of end historical }
-{
-    end.at + usize::from(historical) + usize::from(end.tck)
 }
