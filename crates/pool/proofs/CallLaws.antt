@@ -5,7 +5,7 @@ use mathlib.Core.List.{List, []}
 use Prim.Native.Nat.{ℕ, ◌≤◌, ◌<◌}
 use lib.Dec.{ltb, leb}
 use lib.ListN.{length}
-use borrow.Author.Tests.{leb-true, ltb-true, lt-ltb, le-ltb, le-leb}
+use borrow.Author.Tests.{leb-true, ltb-true, lt-ltb, le-leb}
 use Rattle.lent.specs.Place.{splice}
 use Rattle.lent.proofs.Cases.{and_left, and_right}
 use Rattle.shares.specs.Pool.{fit}
@@ -43,23 +43,11 @@ module _ (r : List ℕ) (i : ℕ) where
   unfolding takes
   takes_yes e h = rw (e, lt-ltb (lowest r) cells h)
 
-  pub takes-full : granted r i ≡ true → cells ≤ lowest r → takes r i ≡ false
-  unfolding takes
-  takes-full e h = rw (e, le-ltb (lowest r) cells h)
-
   pub takes_no : granted r i ≡ false → takes r i ≡ false
   unfolding takes
   takes_no e = rw e
 
   module _ (xs : List ℕ) where
-    pub appends-takes : piece_size (length xs) ≡ true → appends r i xs ≡ takes r i
-    unfolding appends
-    appends-takes e = rw e
-
-    pub appends-size : piece_size (length xs) ≡ false → appends r i xs ≡ false
-    unfolding appends
-    appends-size e = rw e
-
     pub appended_no : appends r i xs ≡ false → appended r i xs ≡ r
     unfolding appended
     appended_no e = rw e

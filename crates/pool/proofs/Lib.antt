@@ -1,6 +1,7 @@
 -- Laws of the region and of what it shows. Layers above cite Shows.
 pub mod CallLaws
 pub mod ViewLaws
+pub mod FirstLaws
 pub mod ShownLaws
 pub mod HoldingLaws
 pub mod StoredLaws

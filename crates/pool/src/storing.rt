@@ -1,62 +1,49 @@
 // A piece of a holder's response, appended in a cell of its own.
-ghost use Rattle.std.specs.Prelude.{◌≡◌, cond, ◌≤◌, ◌<◌, length};
+ghost use Rattle.std.specs.Prelude.{◌≡◌, ◌≤◌, ◌<◌, length, MatchOption};
 ghost use Rattle.region.specs.Layout.{holders, cells, cell_size, size, held};
-ghost use Rattle.pool.specs.Calls.{lowest, stored, takes, appends, appended};
+ghost use Rattle.pool.specs.Calls.{lowest, stored, appends, appended};
 
-// The lowest cell that nobody owns; 96 where there is none.
-fn lowest_free(r: &[u8]) -> usize
+use region::layout::{CELL, CELLS, CELLS_AT, HELD, LENGTHS, LISTS, OWNERS, PLACES, UNOWNED};
+
+// The lowest cell that nobody owns.
+fn lowest_free(r: &[u8]) -> Option<usize>
     requires { size ≤ length r.now }
-    ensures { result ≡ lowest r.now }
+    ensures { MatchOption result (lowest r.now ≡ cells) (λ c. (c ≡ lowest r.now) × (c < cells)) }
 {
-    let mut c: usize = 0;
-    while c < region::layout::CELLS {
-        if r[region::layout::OWNERS + c] == region::layout::UNOWNED {
-            return c;
-        }
-        c += 1;
-    }
-    c
+    r[OWNERS..OWNERS + CELLS]
+        .iter()
+        .position(|&owner| owner == UNOWNED)
 }
 
 // Makes cell c holder i's last piece, with the bytes xs.
+#[tactic(auto, unfolding(crate::specs::Calls::stored))]
 fn store(r: &mut [u8], i: usize, c: usize, xs: &[u8])
     requires { (size ≤ length r.old) × (i < holders) × (c < cells) × (length xs.now ≤ cell_size) × (held r.old i < 255) }
     ensures { r.new ≡ stored r.old i (held r.old i) c xs.now }
 {
-    let n = r[region::layout::HELD + i];
-    lent::put(r, region::layout::CELLS_AT + c * region::layout::CELL, xs);
-    r[region::layout::OWNERS + c] = i as u8;
-    r[region::layout::PLACES + c] = n;
-    r[region::layout::LENGTHS + c] = xs.len() as u8;
-    r[region::layout::LISTS + (i * region::layout::CELLS + numbers::wide(n))] = c as u8;
-    r[region::layout::HELD + i] = n + 1;
-}
-
-// Takes the lowest free cell for xs, if holder i is granted a cell.
-fn take(r: &mut [u8], i: usize, xs: &[u8]) -> bool
-    requires { length xs.now ≤ cell_size }
-    ensures value { result ≡ takes r.old i }
-    ensures r_after { r.new ≡ cond (takes r.old i) (stored r.old i (held r.old i) (lowest r.old) xs.now) r.old }
-{
-    if region::granted(r, i) {
-        let c = lowest_free(r);
-        if c < region::layout::CELLS {
-            store(r, i, c, xs);
-            return true;
-        }
-        return false;
-    }
-    false
+    let n = r[HELD + i];
+    lent::put(r, CELLS_AT + c * CELL, xs);
+    r[OWNERS + c] = i as u8;
+    r[PLACES + c] = n;
+    r[LENGTHS + c] = xs.len() as u8;
+    r[LISTS + (i * CELLS + usize::from(n))] = c as u8;
+    r[HELD + i] = n + 1;
 }
 
 // Appends a piece of 1 to 254 bytes to holder i's response, in the lowest free cell, if the rule grants one. Answers
 // whether it did; where not, nothing changes.
+#[tactic(auto, unfolding(crate::specs::Calls::appends, crate::specs::Calls::appended, crate::specs::Calls::takes))]
 pub fn append(r: &mut [u8], i: usize, piece: &[u8]) -> bool
     ensures value { result ≡ appends r.old i piece.now }
     ensures r_after { r.new ≡ appended r.old i piece.now }
 {
-    if region::is_piece_size(piece.len()) {
-        return take(r, i, piece);
+    if region::is_piece_size(piece.len())
+        && region::granted(r, i)
+        && let Some(c) = lowest_free(r)
+    {
+        store(r, i, c, piece);
+        true
+    } else {
+        false
     }
-    false
 }

@@ -1,2 +1,3 @@
--- That each promise settles its answer and its bytes.
+-- The length of a response, and that each promise settles its answer and its bytes.
+pub mod LengthLaws
 pub mod Settled

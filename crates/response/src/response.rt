@@ -1,87 +1,108 @@
 // A holder's response: its pieces joined.
-ghost use Rattle.std.specs.Prelude.{◌≡◌, ◌≤◌, ◌<◌, length};
+ghost use Rattle.std.specs.Prelude.{◌≡◌, ◌≤◌, ◌<◌, true, false, length, MatchOption};
 ghost use Rattle.lent.specs.Place.{within, splice};
-ghost use Rattle.region.specs.Layout.{holders, cell_size, size, held, listed};
+ghost use Rattle.region.specs.Layout.{holders, held, listed};
+ghost use Rattle.region.specs.Holding.{inside};
 ghost use Rattle.pool.specs.Calls.{bytes_in, joined, response, copied};
 
+use region::Region;
+use region::layout::{CELL, CELLS, CELLS_AT, HELD, HOLDERS, LENGTHS, LISTS};
+
 // The bytes in cell c, none where its number or its length is out of range.
-fn bytes_of(r: &[u8], c: usize) -> &[u8]
-    requires { size ≤ length r.now }
+fn bytes_of<'a>(r: &Region<'a>, c: usize) -> &'a [u8]
     ensures { result.now ≡ bytes_in r.now c }
 {
-    if region::layout::CELLS <= c {
-        return lent::part(r, 0, 0);
+    if CELLS <= c {
+        return &[];
     }
-    let n = numbers::wide(r[region::layout::LENGTHS + c]);
-    if region::layout::CELL < n {
-        return lent::part(r, 0, 0);
+    let n = usize::from(r.bytes[LENGTHS + c]);
+    if CELL < n {
+        return &[];
     }
-    lent::part(r, region::layout::CELLS_AT + c * region::layout::CELL, n)
+    lent::part(r.bytes, CELLS_AT + c * CELL, n)
 }
 
-// Holder i's piece k.
-fn piece_of(r: &[u8], i: usize, k: usize) -> &[u8]
-    requires { (size ≤ length r.now) × (i < holders) × (k < 256) }
-    ensures { (result.now ≡ bytes_in r.now (listed r.now i k)) × (length result.now ≤ cell_size) }
-{
-    bytes_of(
-        r,
-        numbers::wide(r[region::layout::LISTS + (i * region::layout::CELLS + k)]),
-    )
+// The pieces of a holder of a region.
+#[derive(Drop)]
+struct Pieces<'a> {
+    region: Region<'a>,
+    i: usize,
+    ghost is_holder: { i < holders },
 }
 
-// The length of all pieces of holder i.
-fn length_in_all(r: &[u8], i: usize) -> usize
-    requires { (size ≤ length r.now) × (i < holders) }
-    ensures { result ≡ length (joined r.now i (held r.now i)) }
-{
-    let n = numbers::wide(r[region::layout::HELD + i]);
-    let mut total: usize = 0;
-    let mut k: usize = 0;
-    while k < n {
-        total += piece_of(r, i, k).len();
-        k += 1;
+impl<'a> Pieces<'a> {
+    // The pieces of holder i, where there is a region and i is one of its holders.
+    #[tactic(auto, unfolding(region::specs::Holding::inside))]
+    fn of(r: &'a [u8], i: usize) -> Option<Pieces<'a>>
+        ensures { MatchOption result (inside r.now i ≡ false) (λ p. (inside r.now i ≡ true) × (p.region ≡ r.now) × (p.i ≡ i)) }
+    {
+        let region = Region::of(r)?;
+        if i < HOLDERS {
+            Some(Pieces { region, i })
+        } else {
+            None
+        }
     }
-    total
-}
 
-// Joins all pieces of holder i at the front of out.
-fn join_into(r: &[u8], i: usize, out: &mut [u8])
-    requires { (size ≤ length r.now) × (i < holders) × (length (joined r.now i (held r.now i)) ≤ length out.old) }
-    ensures { out.new ≡ splice out.old 0 (joined r.now i (held r.now i)) }
-{
-    let n = numbers::wide(r[region::layout::HELD + i]);
-    let mut at: usize = 0;
-    let mut k: usize = 0;
-    while k < n {
-        let piece = piece_of(r, i, k);
-        lent::put(out, at, piece);
-        at += piece.len();
-        k += 1;
+    // Piece k.
+    fn piece(&self, k: u8) -> &'a [u8]
+        ensures { result.now ≡ bytes_in self.now.region (listed self.now.region self.now.i k) }
+    {
+        let c = self.region.bytes[LISTS + (self.i * CELLS + usize::from(k))];
+        bytes_of(&self.region, usize::from(c))
+    }
+
+    // How many there are.
+    fn count(&self) -> u8
+        ensures { result ≡ held self.now.region self.now.i }
+    {
+        self.region.bytes[HELD + self.i]
+    }
+
+    // The length of all.
+    fn length(&self) -> usize
+        ensures { result ≡ length (joined self.now.region self.now.i (held self.now.region self.now.i)) }
+    {
+        (0..self.count()).map(|k| self.piece(k).len()).sum()
+    }
+
+    // Joins all at the front of out.
+    fn join_into(&self, out: &mut [u8])
+        requires { length (joined self.now.region self.now.i (held self.now.region self.now.i)) ≤ length out.old }
+        ensures { out.new ≡ splice out.old 0 (joined self.now.region self.now.i (held self.now.region self.now.i)) }
+    {
+        let mut at = 0;
+        for k in 0..self.count() {
+            let piece = self.piece(k);
+            lent::put(out, at, piece);
+            at += piece.len();
+        }
     }
 }
 
 // The length of holder i's response.
+#[tactic(auto, unfolding(pool::specs::Calls::response))]
 pub fn response_length(r: &[u8], i: usize) -> usize
     ensures { result ≡ length (response r.now i) }
 {
-    if region::is_holder(r, i) {
-        return length_in_all(r, i);
+    match Pieces::of(r, i) {
+        Some(pieces) => pieces.length(),
+        None => 0,
     }
-    0
 }
 
 // Copies holder i's response to the front of out and answers true; where out is shorter, it stays and the answer is false.
+#[tactic(auto, unfolding(pool::specs::Calls::response, pool::specs::Calls::copied))]
 pub fn copy_out(r: &[u8], i: usize, out: &mut [u8]) -> bool
     ensures value { result ≡ within out.old 0 (length (response r.now i)) }
     ensures out_after { out.new ≡ copied r.now i out.old }
 {
-    if region::is_holder(r, i) {
-        if length_in_all(r, i) <= out.len() {
-            join_into(r, i, out);
-            return true;
-        }
+    let Some(pieces) = Pieces::of(r, i) else {
+        return true;
+    };
+    if out.len() < pieces.length() {
         return false;
     }
+    pieces.join_into(out);
     true
 }

@@ -1,23 +1,19 @@
-use mathlib.Core.Path.{◌≡◌, sym, ◌∙◌}
+use Prim.Native.Nat.{ℕ}
 use native.Mathlib.Omega.{arith}
+use Rattle.std.proofs.Common.{rules, tests}
+use lib.ListN.{take, drop}
 use lib.Dec.{eqb}
-use borrow.Author.Tests.{eq-eqb}
-use Rattle.region.specs.Layout.{cells, unowned, owner}
+use Rattle.std.proofs.lemmas.Iterator.{YieldsList-from_slice}
+use Rattle.std.proofs.lemmas.Iterator.Search.{position_from_yields_List}
+use Rattle.region.specs.Layout.{cells, unowned, owners_at}
 use Rattle.pool.specs.Calls.{lowest}
-use Rattle.lent.proofs.FoldLaws.{first_is, first_none}
+use Rattle.pool.proofs.FirstLaws.{position_is}
 use Rattle.pool.proofs.storing.lowest_free.Goals as goal
-
-pub returns-then-r-c : goal.returns-then-r-c
-unfolding lowest
-returns-then-r-c c =
-    let r = c.args.r.now in
-    let l = c.loop-c in
-    sym (first_is cells (λ c. eqb (owner r c) unowned) l.c (omega arith) (eq-eqb (owner r l.c) unowned (omega arith)) l.invariant.1)
 
 pub returns : goal.returns
 unfolding lowest
 returns c =
     let r = c.args.r.now in
-    let l = c.loop-c in
-    let e : l.c ≡ cells = omega arith in
-    e ∙ sym (first_none cells (λ c. eqb (owner r c) unowned) (λ j h. l.invariant.1 j (omega arith)))
+    let test = λ (o : ℕ). eqb o unowned in
+    position_is test r owners_at cells (omega arith)
+    (position_from_yields_List test _ _ _ c.position.ensures.ran (YieldsList-from_slice (take cells (drop owners_at r)) (cc)) (λ x b q k. search (rules, tests)))
