@@ -7,7 +7,10 @@ ghost use Rattle.session.specs.Call.{refuses};
 ghost use Rattle.slot.specs.View.{slot_no};
 ghost use Rattle.answer.specs.Record.{front_bytes, report_bytes, told, told_of};
 
+mod refusal;
+
 use atr::Report;
+pub use refusal::Refusal;
 use slot::{Next, Slot};
 
 // bytes in a record
