@@ -1,20 +1,21 @@
 -- Laws of the answer: the number of every refusal, and the bounds of every report. Assumes nothing.
-use mathlib.Core.Path.{◌≡◌, refl, sym, ap, ◌∙◌}
+use mathlib.Core.Path.{◌≡◌, refl, ap, ◌∙◌}
 use mathlib.Core.Bool.{Bool, true, false, cond, ◌&&◌, ◌||◌, not}
 use mathlib.Core.List.{List}
+use Rattle.std.specs.Prelude.{Ok, Err}
 use Prim.Native.Nat.{ℕ, ◌^◌, ◌≤◌, ◌<◌}
 use native.Mathlib.Omega.{arith}
 use lib.Dec.{ltb, leb, eqb}
-use borrow.Author.Tests.{ltb-true, ltb-false, leb-false, eqb-true, eqb-false}
+use borrow.Author.Tests.{ltb-true, ltb-false, leb-false, eqb-false}
 use Rattle.lent.proofs.Cases.{cond_case, or_left, or_right}
 use Rattle.atr.specs.declared.walk.Interface.{Interface}
 use Rattle.atr.specs.declared.report.Report.{Report}
-use Rattle.atr.specs.declared.reader.Answer.{Answer}
-use Rattle.atr.specs.declared.reader.Answer.TheVariants.{Refused, Taken}
+use Rattle.atr.specs.declared.refusal.Refusal.{Refusal}
+use Rattle.atr.specs.declared.refusal.Refusal.TheVariants.{Start, Length, Check, Protocol, Parameter}
 use Rattle.atr.specs.Walk.{present, historical, interface_of, end_of}
 use Rattle.atr.specs.Rules.{start_wrong, length_wrong, check_wrong, not_t1, n_plus1, bwi, cwi, speed_refused, size_refused, wait_refused, check_refused, parameter_refused}
 use Rattle.atr.specs.Report.{ifsc_of, d_in_use, report_of, Bounded}
-use Rattle.atr.specs.Answer.{terms_of, number_of, zeros, values_of, number_in, report_in, answered, answer_of, Told}
+use Rattle.atr.specs.Answer.{Answer, refusal_number, refusal_with, terms_of, number_of, zeros, values_of, number_in, report_in, answered, answer_of, Told}
 use Rattle.atr.proofs.PowerLaws.{power_between}
 
 -- ---- what a rule leaves that does not refuse
@@ -89,17 +90,30 @@ answer-told s =
 
 -- ---- the paper's number and values
 
-number_in_lem : (n : ℕ) (r : Report) → number_in (answered n r) ≡ n
-number_in_lem n r = cond_by (eqb n 0) (eqb-true n 0)
+-- no refusal has the number 0
+pub refusal_number-ne0 : (e : Refusal) → eqb (refusal_number e) 0 ≡ false
+refusal_number-ne0 Start = refl
+refusal_number-ne0 Length = refl
+refusal_number-ne0 Check = refl
+refusal_number-ne0 Protocol = refl
+refusal_number-ne0 Parameter = refl
+
+number_in_lem : (s : List ℕ) (r : Report) → number_in (answered (number_of s) r) ≡ number_of s
+unfolding number_of terms_of
+number_in_lem s r =
+    cond_case P (start_wrong s) {x = 8} (λ _. refl)
+    (λ _. cond_case P (length_wrong s) {x = 9} (λ _. refl)
+    (λ _. cond_case P (check_wrong s (end_of s).tck) {x = 10} (λ _. refl)
+    (λ _. cond_case P (not_t1 (interface_of s)) {x = 11} (λ _. refl)
+    (λ _. cond_case P (parameter_refused (interface_of s)) {x = 12} {y = 0} (λ _. refl) (λ _. refl)))))
   where
-    cond_by : (t : Bool) → (t ≡ true → n ≡ 0) → number_in (cond t (Taken r) (Refused n)) ≡ n
-    cond_by true z = sym (z refl)
-    cond_by false z = refl
+    P : ℕ → Type 0
+    P n = number_in (answered n r) ≡ n
 
 report_in_lem : (n : ℕ) (r : Report) → report_in (answered n r) ≡ cond (eqb n 0) r zeros
 report_in_lem n r = cond_by (eqb n 0)
   where
-    cond_by : (t : Bool) → report_in (cond t (Taken r) (Refused n)) ≡ cond t r zeros
+    cond_by : (t : Bool) → report_in (cond t (Ok r) (Err (refusal_with n))) ≡ cond t r zeros
     cond_by true = refl
     cond_by false = refl
 
@@ -108,4 +122,4 @@ pub answer_whole : (s : List ℕ) (x : Answer) → x ≡ answer_of s → (x ≡ 
 unfolding answer_of values_of
 answer_whole s x e =
     let r : Report = report_of (interface_of s) (historical s) in
-    (e, (ap number_in e ∙ number_in_lem (number_of s) r, ap report_in e ∙ report_in_lem (number_of s) r))
+    (e, (ap number_in e ∙ number_in_lem s r, ap report_in e ∙ report_in_lem (number_of s) r))

@@ -1,12 +1,29 @@
 -- "Reading an ATR" of document 01: the answer to it.
-use Rattle.std.specs.Prelude.{ℕ, ◌≤◌, cond, List, eqb}
+use Rattle.std.specs.Prelude.{ℕ, ◌≤◌, cond, List, eqb, Result, Ok, Err}
 use Rattle.atr.specs.declared.walk.Interface.{Interface}
 use Rattle.atr.specs.declared.report.Report.{Report}
-use Rattle.atr.specs.declared.reader.Answer.{Answer}
-use Rattle.atr.specs.declared.reader.Answer.TheVariants.{Refused, Taken}
+use Rattle.atr.specs.declared.refusal.Refusal.{Refusal}
+use Rattle.atr.specs.declared.refusal.Refusal.TheVariants.{Start, Length, Check, Protocol, Parameter}
 use Rattle.atr.specs.Walk.{interface_of, end_of, historical}
 use Rattle.atr.specs.Rules.{start_wrong, length_wrong, check_wrong, not_t1, parameter_refused}
 use Rattle.atr.specs.Report.{report_of, Bounded}
+
+-- ---- the answer: what attach reports, or why the ATR is refused
+
+abbrev pub Answer : Type 0
+Answer = Result Report Refusal
+
+-- the paper's number
+abbrev pub refusal_number : Refusal → ℕ
+refusal_number Start = 8
+refusal_number Length = 9
+refusal_number Check = 10
+refusal_number Protocol = 11
+refusal_number Parameter = 12
+
+-- and back, of 8 to 12
+abbrev pub refusal_with : (number : ℕ) → Refusal
+refusal_with n = cond (eqb n 8) Start (cond (eqb n 9) Length (cond (eqb n 10) Check (cond (eqb n 11) Protocol Parameter)))
 
 -- ---- the lowest number that applies is given, and none is given otherwise
 
@@ -30,22 +47,22 @@ values_of s = cond (eqb (number_of s) 0) (report_of (interface_of s) (historical
 
 -- the paper's number and values for each case of the answer
 abbrev pub number_in : Answer → ℕ
-number_in (Refused n) = n
-number_in (Taken r) = 0
+number_in (Err e) = refusal_number e
+number_in (Ok r) = 0
 
 abbrev pub report_in : Answer → Report
-report_in (Refused n) = zeros
-report_in (Taken r) = r
+report_in (Err e) = zeros
+report_in (Ok r) = r
 
--- ---- the answer
+-- ---- what is answered
 
 abbrev pub answered : (number : ℕ) → Report → Answer
-answered n r = cond (eqb n 0) (Taken r) (Refused n)
+answered n r = cond (eqb n 0) (Ok r) (Err (refusal_with n))
 
 unfoldable pub answer_of : List ℕ → Answer
 answer_of s = answered (number_of s) (report_of (interface_of s) (historical s))
 
 -- what each case of it tells
 abbrev pub Told : Answer → Type 0
-Told (Refused n) = (8 ≤ n) × (n ≤ 12)
-Told (Taken r) = Bounded r
+Told (Err e) = (8 ≤ refusal_number e) × (refusal_number e ≤ 12)
+Told (Ok r) = Bounded r

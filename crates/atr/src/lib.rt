@@ -4,9 +4,11 @@
 
 mod rates;
 mod reader;
+mod refusal;
 mod report;
 mod rules;
 pub mod walk;
 
-pub use reader::{Answer, on_terms};
+pub use reader::on_terms;
+pub use refusal::Refusal;
 pub use report::Report;

@@ -3,27 +3,19 @@ ghost use Rattle.std.specs.Prelude.{◌≡◌};
 ghost use Rattle.atr.specs.Report.{report_of};
 ghost use Rattle.atr.specs.Answer.{terms_of, answered};
 
+use super::refusal::Refusal;
 use super::report::Report;
 use super::walk::Interface;
 
-// The answer: the number that refuses the ATR, 8 to 12, or what attach reports.
-#[derive(Clone, Copy)]
-pub enum Answer {
-    Refused { number: u8 },
-    Taken { report: Report },
-}
-
-// 11 and 12, by the interface bytes; else the report.
-pub fn on_terms(a: Interface, historical: u8) -> Answer
+// 11 and 12, by the interface bytes; else what attach reports.
+pub fn on_terms(a: Interface, historical: u8) -> Result<Report, Refusal>
     ensures { result ≡ answered (terms_of a) (report_of a historical) }
 {
     if super::rules::is_not_t1(a) {
-        return Answer::Refused { number: 11 };
+        return Err(Refusal::Protocol);
     }
     if super::rules::is_parameter_refused(a) {
-        return Answer::Refused { number: 12 };
+        return Err(Refusal::Parameter);
     }
-    Answer::Taken {
-        report: super::report::reported(a, historical),
-    }
+    Ok(super::report::reported(a, historical))
 }

@@ -6,7 +6,7 @@ use super::walk::{ABSENT, Interface};
 
 // The distance, CWT and BWT in etu; `used` is the D in use, `historical` the count of historical bytes, `f` and `d` what
 // TA1 offers.
-#[derive(Clone, Copy)]
+#[derive(Clone, Copy, Debug, PartialEq, Eq, Default)]
 pub struct Report {
     pub ifsc: u8,
     pub distance: u16,

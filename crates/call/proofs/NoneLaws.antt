@@ -9,7 +9,7 @@ use lib.Dec.{eqb, ltb}
 use lib.ListN.{length}
 use borrow.Author.Tests.{ltb-false, eqb-true, not-false}
 use Rattle.lent.proofs.Cases.{or_right}
-use Rattle.atr.specs.declared.reader.Answer.TheVariants.{Taken}
+use Rattle.std.specs.Prelude.{Ok}
 use Rattle.atr.specs.Report.{Bounded}
 use Rattle.atr.specs.Answer.{report_in, answer_of, Told}
 use Rattle.atr.proofs.AnswerLaws.{answer-told}
@@ -80,7 +80,7 @@ module _ (t : List ℕ) (i : ℕ) (x : Input) (none : refusal_of t i x ≡ 0) wh
 module _ (t : List ℕ) (i : ℕ) (l : Lent) where
   -- attach: the ATR is taken
   module _ (atr : List ℕ) (none : refusal_of t i (attach l atr) ≡ 0) where
-    pub none_atr : answer_of atr ≡ Taken (report_in (answer_of atr))
+    pub none_atr : answer_of atr ≡ Ok (report_in (answer_of atr))
     unfolding answer_of
     none_atr = rw (none_own t i (attach l atr) none)
 

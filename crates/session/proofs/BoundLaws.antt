@@ -6,15 +6,13 @@ use mathlib.Core.Bool.{Bool, true, false, cond, ◌&&◌}
 use mathlib.Core.List.{List, [], ◌∷◌}
 use native.Mathlib.Omega.{arith}
 use lib.Dec.{eqb}
-use borrow.Author.Tests.{ne_eqb}
 use Rattle.lent.proofs.Cases.{cond_case}
 use Rattle.block.specs.Reader.{read_of, inf_read}
 use Rattle.block.specs.declared.event.Event.{Event}
 use Rattle.block.specs.declared.event.Event.TheVariants.{I, R, IfsRequest, IfsResponse, Abort, Wtx, Edc, Other}
-use Rattle.atr.specs.declared.reader.Answer.{Answer as AtrAnswer}
-use Rattle.atr.specs.declared.reader.Answer.TheVariants.{Refused, Taken}
-use Rattle.atr.specs.Answer.{answer_of, Told as AtrTold}
-use Rattle.atr.proofs.AnswerLaws.{answer-told}
+use Rattle.std.specs.Prelude.{Ok, Err}
+use Rattle.atr.specs.Answer.{Answer as AtrAnswer, refusal_number, answer_of, Told as AtrTold}
+use Rattle.atr.proofs.AnswerLaws.{answer-told, refusal_number-ne0}
 use Rattle.shares.specs.Decide.{Row}
 use Rattle.shares.specs.Log.{Entry, takes, happened}
 use Rattle.session.specs.Slot.{Block, i_block, r_block, ifs_request, s_response, Line, Talk, State, empty, greeting, ready, busy, done, ended, state_no, held_in}
@@ -212,8 +210,8 @@ module _ (c e : ℕ) where
   event_next ended v inf room p = (p, inl (omega arith))
 
   attach_next : (s : State) (a : AtrAnswer) → AtrTold a → Spent c s e → NextRow c e 0 (sent_in s) (on_attach s a)
-  attach_next s (Taken rep) told p = (omega arith, inr (omega arith))
-  attach_next s (Refused k) told p = refused_next c e 0 (sent_in s) s k (ne_eqb k 0 (λ z. omega (arith, told.0))) p
+  attach_next s (Ok rep) told p = (omega arith, inr (omega arith))
+  attach_next s (Err k) told p = refused_next c e 0 (sent_in s) s (refusal_number k) (refusal_number-ne0 k) p
 
   command_next : (s : State) (bs : List ℕ) → Spent c s e → NextRow c e 0 (sent_in s) (on_command s bs)
   command_next (ready l) bs p = (omega arith, inr (omega arith))

@@ -8,9 +8,8 @@ use Rattle.lent.proofs.Cases.{cond_case}
 use Rattle.block.specs.Reader.{read_of, inf_read}
 use Rattle.block.specs.declared.event.Event.{Event}
 use Rattle.block.specs.declared.event.Event.TheVariants.{I, R, IfsRequest, IfsResponse, Abort, Wtx, Edc, Other}
-use Rattle.atr.specs.declared.reader.Answer.{Answer as AtrAnswer}
-use Rattle.atr.specs.declared.reader.Answer.TheVariants.{Refused, Taken}
-use Rattle.atr.specs.Answer.{answer_of}
+use Rattle.std.specs.Prelude.{Ok, Err}
+use Rattle.atr.specs.Answer.{Answer as AtrAnswer, answer_of}
 use Rattle.shares.specs.Decide.{Row, is_ask}
 use Rattle.session.specs.Slot.{Talk, State, empty, greeting, ready, busy, done, ended}
 use Rattle.session.specs.Call.{Input, attach, command, event, collect, remove, Answer}
@@ -33,8 +32,8 @@ busy-asks t Edc inf = refl
 busy-asks t Other inf = refl
 
 attach-asks : (s : State) (a : AtrAnswer) → Asks false (on_attach s a)
-attach-asks s (Taken rep) = refl
-attach-asks s (Refused n) = refl
+attach-asks s (Ok rep) = refl
+attach-asks s (Err e) = refl
 
 command-asks : (s : State) (bs : List ℕ) → Asks false (on_command s bs)
 command-asks empty bs = refl

@@ -13,10 +13,10 @@ use Rattle.block.specs.Block.{head_of, block_of}
 use Rattle.block.specs.Reader.{read_of, inf_read}
 use Rattle.block.specs.declared.event.Event.{Event}
 use Rattle.block.specs.declared.event.Event.TheVariants.{I, R, IfsRequest, IfsResponse, Abort, Wtx, Edc, Other}
-use Rattle.atr.specs.declared.reader.Answer.{Answer as AtrAnswer}
-use Rattle.atr.specs.declared.reader.Answer.TheVariants.{Taken}
+use Rattle.std.specs.Prelude.{Ok, Err}
 use Rattle.atr.specs.declared.report.Report.{Report}
-use Rattle.atr.specs.Answer.{number_of as atrNumber, answer_of, zeros}
+use Rattle.atr.specs.Answer.{Answer as AtrAnswer, refusal_number, answer_of, zeros}
+use Rattle.atr.proofs.AnswerLaws.{refusal_number-ne0}
 use Rattle.pool.specs.Contents.{join}
 use Rattle.shares.specs.Decide.{Row, plain, ask, is_ask, row_state, row_answer}
 use Rattle.shares.specs.Log.{Entry, takes, happened}
@@ -284,7 +284,7 @@ module _ (l : Lent) (k : ℕ) (bs : List ℕ) (h : Past) where
 
 -- ---- the other calls: none is an event, so that event_in is 0, and none takes a cell
 
-taken_good : (rep : Report) (s : State) (l : Lent) (atr : List ℕ) (h : Past) → Good (attach l atr) h (on_attach s (Taken rep))
+taken_good : (rep : Report) (s : State) (l : Lent) (atr : List ℕ) (h : Past) → Good (attach l atr) h (on_attach s (Ok rep))
 unfolding back_to blocks infs state_in in_turn
 taken_good rep s l atr h =
     let one = one_block (attach l atr) ifs_request refl in (
@@ -292,11 +292,9 @@ taken_good rep s l atr h =
       record { sent = rw one; delivers = tt; turns = never; onward = λ _ _. unequal 0 1 refl },
     )
 
-attach_good : (s : State) (l : Lent) (atr : List ℕ) (h : Past) → Inv s h → Good (attach l atr) h (on_attach s (answer_of atr))
-unfolding answer_of
-attach_good s l atr h v =
-    cond_case (λ (a : AtrAnswer). Good (attach l atr) h (on_attach s a)) (eqb (atrNumber atr) 0)
-    (λ _. taken_good _ s l atr h) (λ q. refused_good s (attach l atr) (atrNumber atr) h q v)
+attach_good : (s : State) (l : Lent) (atr : List ℕ) (h : Past) → (a : AtrAnswer) → Inv s h → Good (attach l atr) h (on_attach s a)
+attach_good s l atr h (Ok rep) v = taken_good rep s l atr h
+attach_good s l atr h (Err e) v = refused_good s (attach l atr) (refusal_number e) h (refusal_number-ne0 e) v
 
 command_good : (s : State) (l : Lent) (bs : List ℕ) (h : Past) → Inv s h → Good (command l bs) h (on_command s bs)
 unfolding back_to blocks infs state_in
@@ -333,7 +331,7 @@ remove_good l h = (
 -- ---- every call
 
 does_good : (s : State) (x : Input) (h : Past) → Inv s h → Good x h (does s x)
-does_good s (attach l atr) h v = attach_good s l atr h v
+does_good s (attach l atr) h v = attach_good s l atr h (answer_of atr) v
 does_good s (command l bs) h v = command_good s l bs h v
 does_good s (event l k bs) h v = event_good l k bs h s v
 does_good s (collect l) h v = collect_good s l h v

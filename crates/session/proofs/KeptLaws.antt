@@ -13,9 +13,8 @@ use Rattle.block.specs.Reader.{read_of, inf_read}
 use Rattle.block.specs.declared.event.Event.{Event}
 use Rattle.block.specs.declared.event.Event.TheVariants.{I, R, IfsRequest, IfsResponse, Abort, Wtx, Edc, Other}
 use Rattle.block.proofs.ReaderLaws.{read_told}
-use Rattle.atr.specs.declared.reader.Answer.{Answer as AtrAnswer}
-use Rattle.atr.specs.declared.reader.Answer.TheVariants.{Refused, Taken}
-use Rattle.atr.specs.Answer.{answer_of, Told as AtrTold}
+use Rattle.std.specs.Prelude.{Ok, Err}
+use Rattle.atr.specs.Answer.{Answer as AtrAnswer, answer_of, Told as AtrTold}
 use Rattle.atr.proofs.AnswerLaws.{answer-told}
 use Rattle.shares.specs.Decide.{Row}
 use Rattle.session.specs.Slot.{Block, i_block, r_block, ifs_request, s_response, Line, Talk, State, empty, greeting, ready, busy, done, ended}
@@ -271,9 +270,9 @@ greet_kept l n e k third = go e
 -- ---- each call
 
 attach_kept : (s : State) (a : AtrAnswer) → AtrTold a → Kept s → RowKept (on_attach s a)
-attach_kept s (Taken rep) told k =
+attach_kept s (Ok rep) told k =
     (record { low = told.ifsc.0; high = told.ifsc.1; bwt = told.bwt.1; s = omega arith; r = omega arith }, (omega arith, omega arith))
-attach_kept s (Refused n) told k = k
+attach_kept s (Err e) told k = k
 
 pub command_kept : (s : State) (bs : List ℕ) → FormFits bs → Kept s → RowKept (on_command s bs)
 command_kept (ready l) bs f k = send_kept (unsent l bs) (first_unsent l bs k f)

@@ -10,9 +10,8 @@ use Rattle.lent.proofs.Cases.{cond_case}
 use Rattle.block.specs.Reader.{read_of, inf_read}
 use Rattle.block.specs.declared.event.Event.{Event}
 use Rattle.block.specs.declared.event.Event.TheVariants.{I, R, IfsRequest, IfsResponse, Abort, Wtx, Edc, Other}
-use Rattle.atr.specs.declared.reader.Answer.{Answer as AtrAnswer}
-use Rattle.atr.specs.declared.reader.Answer.TheVariants.{Refused, Taken}
-use Rattle.atr.specs.Answer.{answer_of}
+use Rattle.std.specs.Prelude.{Ok, Err}
+use Rattle.atr.specs.Answer.{Answer as AtrAnswer, answer_of}
 use Rattle.shares.specs.Rack.{Lawful}
 use Rattle.shares.specs.Decide.{Row, Fair}
 use Rattle.shares.proofs.DecideLaws.{decided_lawful}
@@ -93,8 +92,8 @@ greet_fair l n Edc = greet_again_lem l n
 greet_fair l n Other = greet_again_lem l n
 
 attach_fair : (s : State) (a : AtrAnswer) → FairIn s (on_attach s a)
-attach_fair s (Taken rep) = omega arith
-attach_fair s (Refused n) = omega arith
+attach_fair s (Ok rep) = omega arith
+attach_fair s (Err e) = omega arith
 
 command_fair : (s : State) (bs : List ℕ) → FairIn s (on_command s bs)
 command_fair (ready l) bs = omega arith

@@ -1,11 +1,9 @@
 -- T=1 as a protocol over the pool: the five calls on a slot, each with its refusals.
-use Rattle.std.specs.Prelude.{ℕ, cond, List, [], eqb}
+use Rattle.std.specs.Prelude.{ℕ, cond, List, [], eqb, Ok, Err}
 use Rattle.block.specs.Reader.{read_of, inf_read}
 use Rattle.block.specs.declared.event.Event.{Event}
 use Rattle.atr.specs.declared.report.Report.{Report}
-use Rattle.atr.specs.declared.reader.Answer.{Answer as AtrAnswer}
-use Rattle.atr.specs.declared.reader.Answer.TheVariants.{Refused, Taken}
-use Rattle.atr.specs.Answer.{answer_of}
+use Rattle.atr.specs.Answer.{Answer as AtrAnswer, refusal_number, answer_of}
 use Rattle.pool.specs.Contents.{join}
 use Rattle.shares.specs.Rack.{Protocol}
 use Rattle.shares.specs.Decide.{Row, plain, decided}
@@ -31,8 +29,8 @@ abbrev pub stays : State → Row State Answer
 stays x = plain x (refuses 4)
 
 abbrev pub on_attach : State → AtrAnswer → Row State Answer
-on_attach x (Taken rep) = now (attached rep)
-on_attach x (Refused n) = plain x (refuses n)
+on_attach x (Ok rep) = now (attached rep)
+on_attach x (Err e) = plain x (refuses (refusal_number e))
 
 abbrev pub on_command : State → List ℕ → Row State Answer
 on_command (ready l) bs = now (commanded l bs)

@@ -1,0 +1,28 @@
+// Why an ATR is refused.
+ghost use Rattle.std.specs.Prelude.{◌≡◌};
+ghost use Rattle.atr.specs.Answer.{refusal_number};
+
+// Its first byte, its length, TCK, a protocol that isn't T=1 on our terms, a parameter.
+#[derive(Clone, Copy, Debug, PartialEq, Eq)]
+pub enum Refusal {
+    Start,
+    Length,
+    Check,
+    Protocol,
+    Parameter,
+}
+
+// The paper's number.
+impl From<Refusal> for u8 {
+    ghost from_gives = { λ refusal number. number ≡ refusal_number refusal };
+
+    fn from(refusal: Refusal) -> u8 {
+        match refusal {
+            Refusal::Start => 8,
+            Refusal::Length => 9,
+            Refusal::Check => 10,
+            Refusal::Protocol => 11,
+            Refusal::Parameter => 12,
+        }
+    }
+}
