@@ -1,6 +1,7 @@
 -- Each public function's promise settles its answer. Assumes nothing.
 use mathlib.Core.Path.{sym, ◌∙◌}
 use Rattle.lent.proofs.Settles.{Settles}
+use Rattle.entry.proofs.StateLaws.{names_one}
 use Rattle.entry.proofs.reading.line.Kinds as line-kinds
 use Rattle.entry.proofs.reading.line.Reads as line
 use Rattle.entry.proofs.reading.sent.Kinds as sent-kinds
@@ -9,6 +10,8 @@ use Rattle.entry.proofs.reading.talk.Kinds as talk-kinds
 use Rattle.entry.proofs.reading.talk.Reads as talk
 use Rattle.entry.proofs.reading.slot.Kinds as slot-kinds
 use Rattle.entry.proofs.reading.slot.Reads as slot
+use Rattle.entry.proofs.reading.state.Kinds as state-kinds
+use Rattle.entry.proofs.reading.state.Reads as state
 use Rattle.entry.proofs.reading.is_formed.Kinds as is-formed-kinds
 use Rattle.entry.proofs.reading.is_formed.Reads as is-formed
 use Rattle.entry.proofs.writing.bytes.Kinds as bytes-kinds
@@ -25,6 +28,9 @@ talk_answer κs a x y s t f g = f ∙ sym g
 
 pub slot_answer : Settles slot-kinds.ps slot-kinds.r slot.Post (λ κs r s. r)
 slot_answer κs a x y s t f g = f ∙ sym g
+
+pub state_answer : Settles state-kinds.ps state-kinds.r state.Post (λ κs r s. r)
+state_answer κs a x y s t f g = names_one _ _ _ f g
 
 pub is_formed-answer : Settles is-formed-kinds.ps is-formed-kinds.r is-formed.Post (λ κs r s. r)
 is_formed-answer κs a x y s t f g = f ∙ sym g

@@ -4,7 +4,9 @@
 
 pub mod layout;
 mod reading;
+mod states;
 mod writing;
 
-pub use reading::{is_formed, line, sent, slot, talk};
+pub use reading::{is_formed, line, sent, slot, state, talk};
+pub use states::State;
 pub use writing::bytes;

@@ -1,7 +1,9 @@
 // The slot that an entry's bytes are. Any bytes are read; a number that is not there is 0.
 ghost use Rattle.std.specs.Prelude.{◌≡◌};
-ghost use Rattle.entry.specs.Entry.{line_in, cut_in, last_in, turn_in, talk_in, sent_in, slot_in, formed};
+ghost use Rattle.entry.specs.Entry.{line_in, cut_in, last_in, turn_in, talk_in, sent_in, slot_in, state_in, formed};
+ghost use Rattle.entry.specs.State.{Names};
 
+use super::states::State;
 use slot::{Cut, Last, Line, Slot, Talk, Turn};
 
 // IFSC, BWT, s and r.
@@ -73,30 +75,29 @@ pub fn talk(w: &[u8]) -> Talk
     }
 }
 
+// The state; None where its number is above 5.
+pub fn state(w: &[u8]) -> Option<State>
+    ensures { Names (state_in w.now) result }
+{
+    State::try_from(numbers::get8(w, super::layout::STATE)).ok()
+}
+
 // The slot, by its state.
+#[tactic(auto, unfolding(crate::specs::Entry::slot_in))]
 pub fn slot(w: &[u8]) -> Slot
     ensures { result ≡ slot_in w.now }
 {
-    let state = numbers::get8(w, super::layout::STATE);
-    if state == 1 {
-        return Slot::Greeting {
+    match state(w) {
+        Some(State::Greeting) => Slot::Greeting {
             line: line(w),
             sent: sent(w),
-        };
+        },
+        Some(State::Ready) => Slot::Ready { line: line(w) },
+        Some(State::Busy) => Slot::Busy { talk: talk(w) },
+        Some(State::Done) => Slot::Done { line: line(w) },
+        Some(State::Ended) => Slot::Ended,
+        Some(State::Empty) | None => Slot::Empty,
     }
-    if state == 2 {
-        return Slot::Ready { line: line(w) };
-    }
-    if state == 3 {
-        return Slot::Busy { talk: talk(w) };
-    }
-    if state == 4 {
-        return Slot::Done { line: line(w) };
-    }
-    if state == 5 {
-        return Slot::Ended;
-    }
-    Slot::Empty
 }
 
 // Whether the numbers that name a case name one.

@@ -1,0 +1,43 @@
+// The states of a slot, each a number in its entry.
+ghost use Rattle.std.specs.Prelude.{◌≡◌};
+ghost use Rattle.entry.specs.State.{state_number, Decodes};
+
+#[derive(Clone, Copy, Debug, PartialEq, Eq)]
+pub enum State {
+    Empty = 0,
+    Greeting = 1,
+    Ready = 2,
+    Busy = 3,
+    Done = 4,
+    Ended = 5,
+}
+
+// A number that no state has.
+#[derive(Clone, Copy, Debug, PartialEq, Eq)]
+pub struct UnknownState(pub u8);
+
+impl TryFrom<u8> for State {
+    type Error = UnknownState;
+
+    ghost try_from_gives = { Decodes };
+
+    fn try_from(number: u8) -> Result<Self, UnknownState> {
+        match number {
+            0 => Ok(State::Empty),
+            1 => Ok(State::Greeting),
+            2 => Ok(State::Ready),
+            3 => Ok(State::Busy),
+            4 => Ok(State::Done),
+            5 => Ok(State::Ended),
+            _ => Err(UnknownState(number)),
+        }
+    }
+}
+
+impl From<State> for u8 {
+    ghost from_gives = { λ state number. number ≡ state_number state };
+
+    fn from(state: State) -> u8 {
+        state as u8
+    }
+}
