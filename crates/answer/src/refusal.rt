@@ -1,5 +1,6 @@
 // Why a call is refused.
 ghost use Rattle.std.specs.Prelude.{◌≡◌};
+ghost use Rattle.atr.specs.Answer.{refusal_number};
 ghost use Rattle.answer.specs.Refusal.{refusal_no};
 
 // By the number that C is given, 1 to 12: the table isn't sound, the shares or ceilings, no such slot, the slot's state, too
@@ -37,6 +38,20 @@ impl From<Refusal> for u8 {
             Refusal::Check => 10,
             Refusal::Protocol => 11,
             Refusal::Parameter => 12,
+        }
+    }
+}
+
+impl From<atr::Refusal> for Refusal {
+    ghost from_gives = { λ of_atr refusal. refusal_no refusal ≡ refusal_number of_atr };
+
+    fn from(of_atr: atr::Refusal) -> Refusal {
+        match of_atr {
+            atr::Refusal::Start => Refusal::Start,
+            atr::Refusal::Length => Refusal::Length,
+            atr::Refusal::Check => Refusal::Check,
+            atr::Refusal::Protocol => Refusal::Protocol,
+            atr::Refusal::Parameter => Refusal::Parameter,
         }
     }
 }

@@ -18,16 +18,7 @@ use slot::Next;
 pub fn none() -> Report
     ensures { result ≡ zeros }
 {
-    Report {
-        ifsc: 0,
-        distance: 0,
-        cwt: 0,
-        bwt: 0,
-        used: 0,
-        historical: 0,
-        f: 0,
-        d: 0,
-    }
+    Report::default()
 }
 
 // What attach and an event give: the block is cut from the command that the slot keeps.
