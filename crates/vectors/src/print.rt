@@ -23,11 +23,10 @@ pub(crate) struct Heard(pub(crate) Event);
 impl fmt::Display for Heard {
     fn fmt<W: fmt::Write>(&self, f: &mut fmt::Formatter<W>) -> fmt::Result {
         match self.0 {
-            Event::I { number, more: true } => write!(f, "I more {number:02x}"),
-            Event::I {
-                number,
-                more: false,
-            } => write!(f, "I last {number:02x}"),
+            Event::I { number, more } => {
+                let place = if more { "more" } else { "last" };
+                write!(f, "I {place} {number:02x}")
+            }
             Event::R { number } => write!(f, "R {number:02x}"),
             Event::IfsRequest { size } => write!(f, "IFS request {size:02x}"),
             Event::IfsResponse { size } => write!(f, "IFS response {size:02x}"),

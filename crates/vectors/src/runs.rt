@@ -6,8 +6,8 @@ use super::figure::Figure;
 use super::print::Hex;
 use std::io;
 
-// The number behind x of a row that goes through all 65,536.
-fn behind(x: u16) -> u16 {
+// The number after x in a row that looks mixed.
+fn after(x: u16) -> u16 {
     x.wrapping_mul(1103).wrapping_add(12345)
 }
 
@@ -15,9 +15,10 @@ fn behind(x: u16) -> u16 {
 fn takes(r: &mut [u8], i: usize, x: u16) -> bool {
     if x / 256 % 64 == 0 {
         pool::release(r, i);
-        return false;
+        false
+    } else {
+        super::cells::append(r, i, (x / 16 % 256) as u8, (x % 251) as u8)
     }
-    super::cells::append(r, i, (x / 16 % 256) as u8, (x % 251) as u8)
 }
 
 pub(crate) fn three_if_sound(r: &[u8]) -> usize
@@ -41,7 +42,7 @@ fn calls(r: &mut [u8]) -> Figure {
     let mut x = 1;
     let mut figure = Figure::new();
     for _ in 0..3000 {
-        x = behind(x);
+        x = after(x);
         figure = figure.and(call(r, x));
     }
     figure
@@ -120,11 +121,11 @@ pub(crate) fn damage(rt: &impl Print, r: &mut [u8]) -> io::Result<()> {
     Ok(())
 }
 
-// Bytes by the numbers behind x.
+// Bytes by the numbers after x.
 fn scatter(s: &mut [u8], x: u16) {
     let mut x = x;
     for b in s.iter_mut() {
-        x = behind(x);
+        x = after(x);
         *b = (x / 256) as u8;
     }
 }

@@ -2,9 +2,8 @@
 // length behind them, high byte first. Where the first byte has b8 set the call is folded and not printed.
 use super::figure::Figure;
 use super::print::Hex;
-use super::sessions::Step;
+use super::sessions::{Seat, Step};
 use answer::Refusal;
-use slot::{Next, Slot};
 use std::io;
 
 // Which call; those with no name release too.
@@ -63,67 +62,39 @@ struct Call<'a> {
     bytes: &'a [u8],
 }
 
-// What a script is played on: the region, the command last taken, the slot, and the figure for the calls since the last
+// What a script is played on: the slot with its pool, the command last taken, and the figure for the calls since the last
 // name.
 #[derive(Drop)]
 struct Player {
-    region: [u8; 25464],
+    seat: Seat,
     kept: [u8; 261],
-    slot: Slot,
     figure: Figure,
 }
 
 impl Player {
     fn new() -> Player {
         Player {
-            region: [170; 25464],
+            seat: Seat::new(),
             kept: [0; 261],
-            slot: Slot::Empty,
             figure: Figure::new(),
         }
     }
 
     // What a call answers.
     fn answer(&mut self, call: Call, out: &mut [u8]) -> Result<Step, Refusal> {
-        let slot = self.slot;
         let bytes = call.bytes;
-        let r = &mut self.region;
         match call.op {
-            Op::Attach => super::sessions::attach(slot, bytes),
-            Op::Command => super::sessions::command(slot, bytes),
-            Op::Event => super::sessions::event(r, slot, call.number, bytes),
-            Op::Collect => super::sessions::collect(
-                r,
-                slot,
-                usize::from(numbers::get16(bytes, 0)),
-                out,
-            ),
-            Op::Remove => super::sessions::remove(r, slot),
-            Op::Open => super::sessions::open(r, bytes),
-            Op::Append => {
-                pool::append(r, usize::from(call.number), bytes);
-                Ok(Step::still(slot))
-            }
-            Op::Release | Op::Nameless => {
-                pool::release(r, usize::from(call.number));
-                Ok(Step::still(slot))
-            }
+            Op::Attach => self.seat.attach(bytes),
+            Op::Command => self.seat.command(bytes),
+            Op::Event => self.seat.event(call.number, bytes),
+            Op::Collect => self
+                .seat
+                .collect(usize::from(numbers::get16(bytes, 0)), out),
+            Op::Remove => self.seat.remove(),
+            Op::Open => self.seat.open(bytes),
+            Op::Append => Ok(self.seat.append(call.number, bytes)),
+            Op::Release | Op::Nameless => Ok(self.seat.release(call.number)),
         }
-    }
-
-    // The number of a refusal or 0, what comes next, and what then is held, free and sound.
-    fn numbers(&self, refusal: u8, next: Next, length: usize) -> [usize; 9] {
-        [
-            usize::from(refusal),
-            usize::from(super::sessions::number_of(next.slot)),
-            usize::from(next.ending),
-            next.sent as usize,
-            length,
-            next.wait as usize,
-            usize::from(region::held(&self.region, 0)),
-            usize::from(region::free(&self.region)),
-            super::runs::three_if_sound(&self.region),
-        ]
     }
 
     // Makes a call with an output of bytes AA. The command that was not refused is kept, for the blocks to come, and a
@@ -136,18 +107,17 @@ impl Player {
         }
         let (refusal, step) = match answer {
             Ok(step) => (0, step),
-            Err(refusal) => (u8::from(refusal), Step::still(self.slot)),
+            Err(refusal) => (u8::from(refusal), self.seat.still()),
         };
         let next = step.next;
         let length = match wire::send(&mut out, next.send, &self.kept) {
             0 => step.length,
             n => n,
         };
-        let numbers = self.numbers(refusal, next, length);
+        let numbers = self.seat.numbers(refusal, next, length);
         if !call.quiet {
             told(rt, call.op, &numbers, lent::part(&out, 0, length))?;
         }
-        self.slot = next.slot;
         self.figure = folded(self.figure, &numbers).and(usize::from(Figure::of(&out)));
         Ok(())
     }

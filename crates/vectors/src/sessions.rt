@@ -1,5 +1,4 @@
-// The calls on slot 0, whose cells are in the region r of a pool. The slot goes in and comes back by value; what a call is
-// refused for is told here, as the rack will.
+// The calls on slot 0, whose cells are in a pool's region. What a call is refused for is told here, as the rack will.
 use answer::Refusal;
 use slot::{Line, Next, Send, Slot};
 
@@ -10,27 +9,8 @@ pub(crate) struct Step {
     pub(crate) next: Next,
 }
 
-impl Step {
-    // The slot is as given, and nothing goes out.
-    pub(crate) fn still(slot: Slot) -> Step {
-        Step::from(Next {
-            slot,
-            send: Send::Nothing,
-            sent: 0,
-            wait: 0,
-            ending: 0,
-        })
-    }
-}
-
-impl From<Next> for Step {
-    fn from(next: Next) -> Step {
-        Step { length: 0, next }
-    }
-}
-
-// 0 to 5: empty, greeting, ready, busy, done, ended.
-pub(crate) fn number_of(slot: Slot) -> u8 {
+// A state's number, as in include/rack.h: the function of `answer` that tells it is private.
+fn number_of(slot: Slot) -> u8 {
     match slot {
         Slot::Empty => 0,
         Slot::Greeting { .. } => 1,
@@ -41,66 +21,6 @@ pub(crate) fn number_of(slot: Slot) -> u8 {
     }
 }
 
-pub(crate) fn attach(slot: Slot, bytes: &[u8]) -> Result<Step, Refusal> {
-    let Slot::Empty = slot else {
-        return Err(Refusal::State);
-    };
-    let report = reset::read(bytes)?;
-    Ok(Step::from(greeting::attach(report)))
-}
-
-pub(crate) fn command(slot: Slot, bytes: &[u8]) -> Result<Step, Refusal> {
-    let Slot::Ready { line } = slot else {
-        return Err(Refusal::State);
-    };
-    if wire::is_command(bytes) {
-        Ok(Step::from(turn::command(line, bytes)))
-    } else {
-        Err(Refusal::Form)
-    }
-}
-
-// The state comes before the kind, of which there are three.
-pub(crate) fn event(r: &mut [u8], slot: Slot, kind: u8, bytes: &[u8]) -> Result<Step, Refusal> {
-    let kind = u64::from(kind);
-    let next = match slot {
-        Slot::Greeting { .. } | Slot::Busy { .. } if kind > 2 => return Err(Refusal::Kind),
-        Slot::Greeting { line, sent } => terminal::greet(line, sent, kind, bytes),
-        Slot::Busy { talk } => terminal::event(r, 0, talk, kind, bytes),
-        _ => return Err(Refusal::State),
-    };
-    Ok(Step::from(next))
-}
-
-// Collects into all of the output: refused if it is too short, and the slot is still done.
-fn collected(r: &mut [u8], line: Line, out: &mut [u8]) -> Result<Step, Refusal> {
-    let length = response::response_length(r, 0);
-    let next = terminal::collect(r, 0, line, out);
-    match next.slot {
-        Slot::Done { .. } => Err(Refusal::Lent),
-        _ => Ok(Step { length, next }),
-    }
-}
-
-// Collects into the first n bytes of the output.
-pub(crate) fn collect(r: &mut [u8], slot: Slot, n: usize, out: &mut [u8]) -> Result<Step, Refusal> {
-    let Slot::Done { line } = slot else {
-        return Err(Refusal::State);
-    };
-    if n <= out.len() {
-        collected(r, line, &mut out[..n])
-    } else {
-        Err(Refusal::Lent)
-    }
-}
-
-pub(crate) fn remove(r: &mut [u8], slot: Slot) -> Result<Step, Refusal> {
-    if let Slot::Empty = slot {
-        return Err(Refusal::State);
-    }
-    Ok(Step::from(terminal::remove(r, 0)))
-}
-
 // The first eight bytes, zeros where there are fewer.
 fn eight(bytes: &[u8]) -> [u8; 8] {
     let mut eight = [0u8; 8];
@@ -108,13 +28,140 @@ fn eight(bytes: &[u8]) -> [u8; 8] {
     eight
 }
 
-// Open, with eight shares and then eight ceilings.
-pub(crate) fn open(r: &mut [u8], limits: &[u8]) -> Result<Step, Refusal> {
-    let shares = eight(limits);
-    let ceilings = eight(lent::part(limits, 8, 8));
-    if pool::lay_out(r, &shares, &ceilings) {
-        Ok(Step::still(Slot::Empty))
-    } else {
-        Err(Refusal::Limits)
+// A pool's region, and slot 0.
+#[derive(Drop)]
+pub(crate) struct Seat {
+    region: [u8; 25464],
+    slot: Slot,
+}
+
+impl Seat {
+    pub(crate) fn new() -> Seat {
+        Seat {
+            region: [0xAA; 25464],
+            slot: Slot::Empty,
+        }
+    }
+
+    // The slot stays, and nothing goes out.
+    pub(crate) fn still(&self) -> Step {
+        let next = Next {
+            slot: self.slot,
+            send: Send::Nothing,
+            sent: 0,
+            wait: 0,
+            ending: 0,
+        };
+        Step { length: 0, next }
+    }
+
+    // The slot goes on.
+    fn moved(&mut self, length: usize, next: Next) -> Step {
+        self.slot = next.slot;
+        Step { length, next }
+    }
+
+    pub(crate) fn attach(&mut self, atr: &[u8]) -> Result<Step, Refusal> {
+        let Slot::Empty = self.slot else {
+            return Err(Refusal::State);
+        };
+        let report = reset::read(atr)?;
+        Ok(self.moved(0, greeting::attach(report)))
+    }
+
+    pub(crate) fn command(&mut self, bytes: &[u8]) -> Result<Step, Refusal> {
+        let Slot::Ready { line } = self.slot else {
+            return Err(Refusal::State);
+        };
+        if wire::is_command(bytes) {
+            Ok(self.moved(0, turn::command(line, bytes)))
+        } else {
+            Err(Refusal::Form)
+        }
+    }
+
+    // The state comes before the kind, of which there are three.
+    pub(crate) fn event(&mut self, kind: u8, bytes: &[u8]) -> Result<Step, Refusal> {
+        let next = match self.slot {
+            Slot::Greeting { .. } | Slot::Busy { .. } if kind > 2 => return Err(Refusal::Kind),
+            Slot::Greeting { line, sent } => terminal::greet(line, sent, u64::from(kind), bytes),
+            Slot::Busy { talk } => terminal::event(
+                &mut self.region,
+                0,
+                talk,
+                u64::from(kind),
+                bytes,
+            ),
+            _ => return Err(Refusal::State),
+        };
+        Ok(self.moved(0, next))
+    }
+
+    // Collects into all of the output: refused if it is too short, and the slot is still done.
+    fn collected(&mut self, line: Line, out: &mut [u8]) -> Result<Step, Refusal> {
+        let length = response::response_length(&self.region, 0);
+        let next = terminal::collect(&mut self.region, 0, line, out);
+        match next.slot {
+            Slot::Done { .. } => Err(Refusal::Lent),
+            _ => Ok(self.moved(length, next)),
+        }
+    }
+
+    // Collects into the first n bytes of the output.
+    pub(crate) fn collect(&mut self, n: usize, out: &mut [u8]) -> Result<Step, Refusal> {
+        let Slot::Done { line } = self.slot else {
+            return Err(Refusal::State);
+        };
+        if n <= out.len() {
+            self.collected(line, &mut out[..n])
+        } else {
+            Err(Refusal::Lent)
+        }
+    }
+
+    pub(crate) fn remove(&mut self) -> Result<Step, Refusal> {
+        if let Slot::Empty = self.slot {
+            return Err(Refusal::State);
+        }
+        let next = terminal::remove(&mut self.region, 0);
+        Ok(self.moved(0, next))
+    }
+
+    // Open, with eight shares and then eight ceilings.
+    pub(crate) fn open(&mut self, limits: &[u8]) -> Result<Step, Refusal> {
+        let shares = eight(limits);
+        let ceilings = eight(lent::part(limits, 8, 8));
+        if !pool::lay_out(&mut self.region, &shares, &ceilings) {
+            return Err(Refusal::Limits);
+        }
+        self.slot = Slot::Empty;
+        Ok(self.still())
+    }
+
+    // Appends for another holder.
+    pub(crate) fn append(&mut self, i: u8, piece: &[u8]) -> Step {
+        pool::append(&mut self.region, usize::from(i), piece);
+        self.still()
+    }
+
+    // Releases another holder.
+    pub(crate) fn release(&mut self, i: u8) -> Step {
+        pool::release(&mut self.region, usize::from(i));
+        self.still()
+    }
+
+    // The number of a refusal or 0, what comes next, and what then is held, free and sound.
+    pub(crate) fn numbers(&self, refusal: u8, next: Next, length: usize) -> [usize; 9] {
+        [
+            usize::from(refusal),
+            usize::from(number_of(next.slot)),
+            usize::from(next.ending),
+            next.sent as usize,
+            length,
+            next.wait as usize,
+            usize::from(region::held(&self.region, 0)),
+            usize::from(region::free(&self.region)),
+            super::runs::three_if_sound(&self.region),
+        ]
     }
 }
