@@ -21,6 +21,7 @@ fn takes(r: &mut [u8], i: usize, x: u16) -> bool {
     }
 }
 
+// What a figure counts for a sound region.
 pub(crate) fn three_if_sound(r: &[u8]) -> usize
     ensures { result ≤ 3 }
 {
