@@ -7,7 +7,10 @@ ghost use Rattle.session.specs.Call.{refuses};
 ghost use Rattle.slot.specs.View.{slot_no};
 ghost use Rattle.answer.specs.Record.{front_bytes, report_bytes, told, told_of};
 
+mod refusal;
+
 use atr::Report;
+pub use refusal::Refusal;
 use slot::{Next, Slot};
 
 // bytes in a record
@@ -25,9 +28,9 @@ const REST_SIZE: usize = RECORD - REST;
 pub fn refuse(rec: &mut [u8], number: u8)
     ensures { rec.new ≡ told rec.old (refuses number) }
 {
-    let mut b = [0u8; 64];
-    b[0] = number;
-    lent::put(rec, FRONT, &b);
+    let mut record = [0u8; RECORD];
+    record[0] = number;
+    lent::put(rec, FRONT, &record);
 }
 
 // The state, 0 to 5.
@@ -36,10 +39,10 @@ fn state(x: Slot) -> u8
 {
     match x {
         Slot::Empty => 0,
-        Slot::Greeting { line: _, sent: _ } => 1,
-        Slot::Ready { line: _ } => 2,
-        Slot::Busy { talk: _ } => 3,
-        Slot::Done { line: _ } => 4,
+        Slot::Greeting { .. } => 1,
+        Slot::Ready { .. } => 2,
+        Slot::Busy { .. } => 3,
+        Slot::Done { .. } => 4,
         Slot::Ended => 5,
     }
 }
@@ -48,48 +51,29 @@ fn state(x: Slot) -> u8
 fn front(state: u8, ending: u8, sent: u32, written: usize, wait: u32) -> [u8; 16]
     ensures { result ≡ front_bytes 0 state ending sent written wait }
 {
-    [
-        0,
-        state,
-        ending,
-        0,
-        (sent / 16777216 % 256) as u8,
-        (sent / 65536 % 256) as u8,
-        (sent / 256 % 256) as u8,
-        (sent % 256) as u8,
-        (written / 16777216 % 256) as u8,
-        (written / 65536 % 256) as u8,
-        (written / 256 % 256) as u8,
-        (written % 256) as u8,
-        (wait / 16777216 % 256) as u8,
-        (wait / 65536 % 256) as u8,
-        (wait / 256 % 256) as u8,
-        (wait % 256) as u8,
-    ]
+    let mut front = [0u8; 16];
+    front[1] = state;
+    front[2] = ending;
+    front[4..8].copy_from_slice(&sent.to_be_bytes());
+    front[8..12].copy_from_slice(&written.to_be_bytes()[4..]);
+    front[12..].copy_from_slice(&wait.to_be_bytes());
+    front
 }
 
 // What attach reports.
 fn report(r: Report) -> [u8; 16]
     ensures { result ≡ report_bytes r }
 {
-    [
-        r.ifsc,
-        r.used,
-        r.historical,
-        r.d,
-        (r.f / 256 % 256) as u8,
-        (r.f % 256) as u8,
-        (r.distance / 256 % 256) as u8,
-        (r.distance % 256) as u8,
-        (r.cwt / 16777216 % 256) as u8,
-        (r.cwt / 65536 % 256) as u8,
-        (r.cwt / 256 % 256) as u8,
-        (r.cwt % 256) as u8,
-        (r.bwt / 16777216 % 256) as u8,
-        (r.bwt / 65536 % 256) as u8,
-        (r.bwt / 256 % 256) as u8,
-        (r.bwt % 256) as u8,
-    ]
+    let mut report = [0u8; 16];
+    report[0] = r.ifsc;
+    report[1] = r.used;
+    report[2] = r.historical;
+    report[3] = r.d;
+    report[4..6].copy_from_slice(&r.f.to_be_bytes());
+    report[6..8].copy_from_slice(&r.distance.to_be_bytes());
+    report[8..12].copy_from_slice(&r.cwt.to_be_bytes());
+    report[12..].copy_from_slice(&r.bwt.to_be_bytes());
+    report
 }
 
 // An answer with number 0: what a call gives, the bytes that it wrote to the output, and the report, zeros but for attach.
@@ -99,10 +83,8 @@ pub fn tell(rec: &mut [u8], n: Next, written: usize, r: Report)
     if rec.len() < RECORD {
         return;
     }
-    let slot = n.slot;
-    let a = front(state(slot), n.ending, n.sent, written, n.wait);
-    let b = report(r);
-    lent::put(rec, FRONT, &a);
-    lent::put(rec, REPORT, &b);
+    let front = front(state(n.slot), n.ending, n.sent, written, n.wait);
+    lent::put(rec, FRONT, &front);
+    lent::put(rec, REPORT, &report(r));
     lent::fill(rec, REST, REST_SIZE, 0);
 }

@@ -18,33 +18,7 @@ use slot::Next;
 pub fn none() -> Report
     ensures { result ≡ zeros }
 {
-    Report {
-        ifsc: 0,
-        distance: 0,
-        cwt: 0,
-        bwt: 0,
-        used: 0,
-        historical: 0,
-        f: 0,
-        d: 0,
-    }
-}
-
-// Writes the entry of the next slot.
-fn enter(t: &mut [u8], i: usize, n: Next)
-    ensures { t.new ≡ with_slot t.old i n.slot }
-{
-    let slot = n.slot;
-    table::store(t, i, slot);
-}
-
-// Sends what is to be sent, cut from these bytes of a command. Answers the length sent.
-fn send(out: &mut [u8], n: Next, command: &[u8]) -> usize
-    ensures value { result ≡ sent_length out.old n.send command.now }
-    ensures out_after { out.new ≡ sent_out out.old n.send command.now }
-{
-    let send = n.send;
-    wire::send(out, send, command)
+    Report::default()
 }
 
 // What attach and an event give: the block is cut from the command that the slot keeps.
@@ -53,8 +27,8 @@ pub fn finish(t: &mut [u8], i: usize, n: Next, r: Report, out: &mut [u8], rec: &
     ensures out_after { out.new ≡ sent_out out.old n.send (command_in t.old i) }
     ensures rec_after { rec.new ≡ told_of rec.old n (sent_length out.old n.send (command_in t.old i)) r }
 {
-    let written = send(out, n, table::command(t, i));
-    enter(t, i, n);
+    let written = wire::send(out, n.send, table::command(t, i));
+    table::store(t, i, n.slot);
     answer::tell(rec, n, written, r);
 }
 
@@ -64,20 +38,7 @@ pub fn attach(t: &mut [u8], i: usize, r: Report, out: &mut [u8], rec: &mut [u8])
     ensures out_after { out.new ≡ sent_out out.old (attached r).send (command_in t.old i) }
     ensures rec_after { rec.new ≡ told_of rec.old (attached r) (sent_length out.old (attached r).send (command_in t.old i)) r }
 {
-    let n = greeting::attach(r);
-    finish(t, i, n, r, out, rec);
-}
-
-// What a command gives: it is kept, and its first block goes out.
-fn issue(t: &mut [u8], i: usize, n: Next, bytes: &[u8], out: &mut [u8], rec: &mut [u8])
-    ensures t_after { t.new ≡ with_slot (with_command t.old i bytes.now) i n.slot }
-    ensures out_after { out.new ≡ sent_out out.old n.send bytes.now }
-    ensures rec_after { rec.new ≡ told_of rec.old n (sent_length out.old n.send bytes.now) zeros }
-{
-    let written = send(out, n, bytes);
-    table::keep(t, i, bytes);
-    enter(t, i, n);
-    answer::tell(rec, n, written, none());
+    finish(t, i, greeting::attach(r), r, out, rec);
 }
 
 // Command: it is kept, and its first I-block goes out.
@@ -87,5 +48,8 @@ pub fn command(t: &mut [u8], i: usize, bytes: &[u8], out: &mut [u8], rec: &mut [
     ensures rec_after { rec.new ≡ told_of rec.old (commanded (line_in (entry_in t.old i)) bytes.now) (sent_length out.old (commanded (line_in (entry_in t.old i)) bytes.now).send bytes.now) zeros }
 {
     let n = turn::command(entry::line(table::entry(t, i)), bytes);
-    issue(t, i, n, bytes, out, rec);
+    let written = wire::send(out, n.send, bytes);
+    table::keep(t, i, bytes);
+    table::store(t, i, n.slot);
+    answer::tell(rec, n, written, none());
 }

@@ -1,19 +1,18 @@
 // ATRs: P1 to P6, and those of a list, each behind its length in one byte.
-ghost use Rattle.std.specs.Prelude.{◌≤◌, length};
-
+use super::print::{Asked, Hex};
 use std::io;
 
 // What an ATR is read as.
-fn card(rt: &impl Print, s: &[u8]) -> io::Result<()> {
-    super::words::say(rt, super::words::ATR)?;
-    super::print::bytes(rt, s)?;
-    super::words::say(rt, super::words::COLON)?;
-    super::print::answer(rt, reset::read(s))?;
-    super::words::say(rt, super::words::END)
+fn card(rt: &impl Print, atr: &[u8]) -> io::Result<()> {
+    print!(rt; "ATR{}: ", Hex(atr))?;
+    match reset::read(atr) {
+        Ok(report) => println!(rt; "{}", Asked(report)),
+        Err(refusal) => println!(rt; "refused {}", u8::from(refusal)),
+    }
 }
 
 pub(crate) fn paper(rt: &impl Print) -> io::Result<()> {
-    super::words::say(rt, super::words::P1)?;
+    println!(rt; "P1 to P6")?;
     card(rt, b"\x3B\xE0\x00\x00\x81\x31\x20\x45\x35")?;
     card(rt, b"\x3B\xE0\x00\xFF\x81\x31\x20\x40\xCF")?;
     card(rt, b"\x3B\xE0\x00\x01\x81\x31\x20\x40\x31")?;
@@ -22,23 +21,14 @@ pub(crate) fn paper(rt: &impl Print) -> io::Result<()> {
     card(rt, b"\x3C")
 }
 
-// Each ATR of a list.
-fn each(rt: &impl Print, list: &[u8]) -> io::Result<()>
-    requires { length list.now ≤ 65536 }
-{
-    let mut at: usize = 0;
-    while at < list.len() {
-        let n = numbers::get8(list, at) as usize;
-        card(rt, lent::part(list, at + 1, n))?;
-        at += n + 1;
-    }
-    Ok(())
-}
-
+// Each ATR of a list, the last cut off where the list ends.
 pub(crate) fn listed(rt: &impl Print, list: &[u8]) -> io::Result<()> {
-    super::words::say(rt, super::words::LIST)?;
-    if list.len() <= 65536 {
-        each(rt, list)?;
+    println!(rt; "the list")?;
+    let mut rest = list;
+    while let Some((n, behind)) = rest.split_first() {
+        let (atr, after) = behind.split_at(behind.len().min(usize::from(*n)));
+        card(rt, atr)?;
+        rest = after;
     }
     Ok(())
 }

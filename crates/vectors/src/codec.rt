@@ -1,6 +1,5 @@
 // The block codec: P7 to P10 as far as it goes, the limits of LEN and of the IFS byte, and every PCB.
-ghost use Rattle.std.specs.Prelude.{◌≤◌};
-
+use super::print::{Heard, Hex};
 use block::Event;
 use std::io;
 
@@ -8,151 +7,110 @@ use std::io;
 fn sends(rt: &impl Print, pcb: u8, inf: &[u8]) -> io::Result<()> {
     let mut out = [0u8; 260];
     let n = builder::build(&mut out, pcb, inf);
-    super::words::say(rt, super::words::SENDS)?;
-    super::print::bytes(rt, lent::part(&out, 0, n))?;
-    super::words::say(rt, super::words::END)
-}
-
-// What an event is read as.
-fn shown(rt: &impl Print, kind: u64, s: &[u8]) -> io::Result<()> {
-    super::words::say(rt, super::words::COLON)?;
-    super::print::event(rt, block::read(kind, s))?;
-    super::words::say(rt, super::words::END)
+    println!(rt; "sends{}", Hex(lent::part(&out, 0, n)))
 }
 
 // What an event is read as, and its INF.
 fn receives(rt: &impl Print, kind: u64, s: &[u8]) -> io::Result<()> {
-    super::words::say(rt, super::words::RECEIVES)?;
-    super::print::bytes(rt, block::inf(block::read(kind, s), s))?;
-    shown(rt, kind, s)
+    let e = block::read(kind, s);
+    println!(rt; "receives{}: {}", Hex(block::inf(e, s)), Heard(e))
 }
 
-fn seven_and_eight(rt: &impl Print) -> io::Result<()> {
-    super::words::say(rt, super::words::P7)?;
+pub(crate) fn paper(rt: &impl Print) -> io::Result<()> {
+    println!(rt; "P7")?;
     sends(rt, 0xC1, b"\xFE")?;
     receives(rt, 0, b"\x00\xE1\x01\xFE\x1E")?;
-    super::words::say(rt, super::words::P8)?;
+    println!(rt; "P8")?;
     sends(rt, 0x00, b"\x00\xA4\x04\x00")?;
-    receives(rt, 0, b"\x00\x00\x02\x90\x00\x92")
-}
-
-fn nine_and_ten(rt: &impl Print) -> io::Result<()> {
-    super::words::say(rt, super::words::P9)?;
+    receives(rt, 0, b"\x00\x00\x02\x90\x00\x92")?;
+    println!(rt; "P9")?;
     receives(rt, 1, b"\x00\x00\x02\x90\x00\x92")?;
     sends(rt, 0x81, b"")?;
     receives(rt, 2, b"")?;
     sends(rt, 0x82, b"")?;
-    super::words::say(rt, super::words::P10)?;
+    println!(rt; "P10")?;
     receives(rt, 0, b"\x00\xC3\x01\x03\xC1")?;
     sends(rt, 0xE3, b"\x03")
-}
-
-pub(crate) fn paper(rt: &impl Print) -> io::Result<()> {
-    seven_and_eight(rt)?;
-    nine_and_ten(rt)
 }
 
 // An I-block of LEN zeros, its length and its LRC right: LEN is the exclusive or of it all.
 fn long(rt: &impl Print, len: u8) -> io::Result<()> {
     let mut s = [0u8; 260];
-    let n = len as usize;
-    numbers::put8(&mut s, 2, len);
-    numbers::put8(&mut s, n + 3, len);
-    super::words::say(rt, super::words::LEN)?;
-    super::print::byte(rt, len)?;
-    shown(rt, 0, lent::part(&s, 0, n + 4))
+    let n = usize::from(len);
+    s[2] = len;
+    s[n + 3] = len;
+    println!(rt;
+        "LEN {len:02x}: {}",
+        Heard(block::read(0, lent::part(&s, 0, n + 4)))
+    )
 }
 
-// How many bytes are built for an INF of LEN zeros.
-fn built(rt: &impl Print, len: u8) -> io::Result<()> {
-    let mut s = [0u8; 260];
-    let zeros = [0u8; 260];
-    let n = builder::build(&mut s, 0x00, lent::part(&zeros, 0, len as usize));
-    super::words::say(rt, super::words::BUILT)?;
-    super::print::number(rt, n as u64)?;
-    super::words::say(rt, super::words::END)
+// How many bytes are built for an INF.
+fn built(rt: &impl Print, inf: &[u8]) -> io::Result<()> {
+    println!(rt; "built {}", builder::build(&mut [0; 260], 0x00, inf))
 }
 
 // A card's request for an IFS of one byte.
 fn size(rt: &impl Print, v: u8) -> io::Result<()> {
     let mut s = [0u8; 5];
-    let inf = [v];
-    builder::build(&mut s, 0xC1, &inf);
-    super::words::say(rt, super::words::IFS_BYTE)?;
-    super::print::byte(rt, v)?;
-    shown(rt, 0, &s)
+    builder::build(&mut s, 0xC1, &[v]);
+    println!(rt; "IFS byte {v:02x}: {}", Heard(block::read(0, &s)))
 }
 
 // The limits of LEN, and of the IFS byte.
 pub(crate) fn limits(rt: &impl Print) -> io::Result<()> {
     long(rt, 254)?;
     long(rt, 255)?;
-    built(rt, 254)?;
-    built(rt, 255)?;
+    built(rt, &[0; 254])?;
+    built(rt, &[0; 255])?;
     size(rt, 0x0F)?;
     size(rt, 0x10)?;
     size(rt, 0xFE)?;
     size(rt, 0xFF)
 }
 
-fn kind_of(e: Event) -> u8 {
-    match e {
-        Event::I { number: _, more: _ } => 0,
-        Event::R { number: _ } => 1,
-        Event::IfsRequest { size: _ } => 2,
-        Event::IfsResponse { size: _ } => 3,
-        Event::Abort => 4,
-        Event::Wtx { times: _ } => 5,
-        Event::Edc => 6,
-        Event::Other => 7,
-    }
-}
-
-// 1 if a block of this PCB with len bytes 20 is read as a kind, else 0; `fault` is what its LRC is off by.
-fn is_kind(kind: u8, pcb: u8, len: u8, fault: u8) -> u64
-    ensures { result ≤ 1 }
-{
-    let inf = [0x20u8; 2];
+// What a block of a PCB and an INF is read as, where its LRC is right and where it is wrong.
+fn read_as(pcb: u8, inf: &[u8], wrong: bool) -> Event {
     let mut s = [0u8; 6];
-    let n = builder::build(&mut s, pcb, lent::part(&inf, 0, len as usize));
-    let at = (len as usize) + 3;
-    let lrc = numbers::get8(&s, at);
-    numbers::put8(&mut s, at, lrc ^ fault);
-    if kind_of(block::read(0, lent::part(&s, 0, n))) == kind {
-        1
-    } else {
-        0
+    let n = builder::build(&mut s, pcb, inf);
+    if let Some(lrc) = s.get_mut(inf.len() + 3) {
+        *lrc ^= u8::from(wrong);
     }
+    block::read(0, lent::part(&s, 0, n))
 }
 
 // How many of the 256 PCBs are read as a kind.
-fn count(kind: u8, len: u8, fault: u8) -> u64 {
-    let mut n: u64 = 0;
-    let mut pcb: u64 = 0;
-    while pcb < 256 {
-        n += is_kind(kind, (pcb % 256) as u8, len, fault);
-        pcb += 1;
-    }
-    n
+fn count<F: Fn(Event) -> bool>(inf: &[u8], wrong: bool, is_kind: F) -> usize
+    requires { F.IsAlwaysCallable is_kind }
+{
+    (0..=255u8)
+        .filter(|pcb| is_kind(read_as(*pcb, inf, wrong)))
+        .count()
 }
 
-// The counts of the eight kinds, in the order of `kind_of`.
-fn every_pcb(rt: &impl Print, word: usize, len: u8, fault: u8) -> io::Result<()> {
-    super::words::say(rt, word)?;
-    let mut kind: u8 = 0;
-    while kind < 8 {
-        super::print::number(rt, count(kind, len, fault))?;
-        kind += 1;
-    }
-    super::words::say(rt, super::words::END)
+// The counts of the eight kinds.
+fn every_pcb(rt: &impl Print, inf: &[u8], wrong: bool) -> io::Result<()> {
+    let lrc = if wrong { "wrong" } else { "right" };
+    println!(rt;
+        "LEN {}, LRC {lrc}: {} {} {} {} {} {} {} {}",
+        inf.len(),
+        count(inf, wrong, |e| matches!(e, Event::I { .. })),
+        count(inf, wrong, |e| matches!(e, Event::R { .. })),
+        count(inf, wrong, |e| matches!(e, Event::IfsRequest { .. })),
+        count(inf, wrong, |e| matches!(e, Event::IfsResponse { .. })),
+        count(inf, wrong, |e| matches!(e, Event::Abort)),
+        count(inf, wrong, |e| matches!(e, Event::Wtx { .. })),
+        count(inf, wrong, |e| matches!(e, Event::Edc)),
+        count(inf, wrong, |e| matches!(e, Event::Other))
+    )
 }
 
 pub(crate) fn every_code(rt: &impl Print) -> io::Result<()> {
-    super::words::say(rt, super::words::EVERY)?;
-    every_pcb(rt, super::words::RIGHT_0, 0, 0)?;
-    every_pcb(rt, super::words::WRONG_0, 0, 1)?;
-    every_pcb(rt, super::words::RIGHT_1, 1, 0)?;
-    every_pcb(rt, super::words::WRONG_1, 1, 1)?;
-    every_pcb(rt, super::words::RIGHT_2, 2, 0)?;
-    every_pcb(rt, super::words::WRONG_2, 2, 1)
+    println!(rt; "every PCB as I, R, IFS request, IFS response, abort, WTX, EDC, other")?;
+    let inf = [0x20; 2];
+    for len in 0..=2 {
+        every_pcb(rt, &inf[..len], false)?;
+        every_pcb(rt, &inf[..len], true)?;
+    }
+    Ok(())
 }

@@ -7,11 +7,11 @@ ghost use Rattle.std.specs.Prelude.{◌≤◌, length, IfOk};
 mod cards;
 mod cells;
 mod codec;
+mod figure;
 mod print;
 mod runs;
 mod script;
 mod sessions;
-mod words;
 
 use std::io;
 use std::io::Read;
@@ -30,7 +30,8 @@ fn read_full(rt: &impl Input, buf: &mut [u8]) -> io::Result<usize>
     ensures { IfOk result (λ n. n ≤ length buf.new) }
 {
     let mut reader = rt.reader();
-    let mut n: usize = 0;
+    let mut n = 0;
+    // A read may bring fewer bytes than there is room for, so n grows by what came.
     while n < buf.len() {
         let more = reader.read(&mut buf[n..])?;
         if more == 0 {
@@ -47,7 +48,7 @@ fn inputs(rt: &(impl Print + Input)) -> io::Result<()> {
     let mut space = [0u8; 65536];
     let n = read_full(rt, &mut space)?;
     let given = &space[..n];
-    let size = numbers::get16(given, 0) as usize;
+    let size = usize::from(numbers::get16(given, 0));
     cards::listed(rt, lent::part(given, 2, size))?;
     script::played(rt, lent::part(given, size + 2, n))
 }

@@ -1,86 +1,63 @@
-// Text on standard output. A write that fails is handed up, and `main` ends with its error.
-use atr::{Answer, Report};
+// How what the product reads and answers is printed.
+use atr::Report;
 use block::Event;
-use std::io;
+use std::fmt;
 
-pub(crate) fn text(rt: &impl Print, s: &[u8]) -> io::Result<()> {
-    rt.write_all(s)
-}
+// Bytes in hexadecimal digits, each behind a space.
+#[derive(Clone, Copy)]
+pub(crate) struct Hex<'a>(pub(crate) &'a [u8]);
 
-// A byte as two hexadecimal digits, behind a space.
-pub(crate) fn byte(rt: &impl Print, b: u8) -> io::Result<()> {
-    super::words::say(rt, super::words::SPACE)?;
-    print!(rt; "{b:02x}")
-}
-
-pub(crate) fn bytes(rt: &impl Print, s: &[u8]) -> io::Result<()> {
-    let mut i: usize = 0;
-    while i < s.len() {
-        byte(rt, s[i])?;
-        i += 1;
-    }
-    Ok(())
-}
-
-// A number in decimal digits, behind a space.
-pub(crate) fn number(rt: &impl Print, n: u64) -> io::Result<()> {
-    super::words::say(rt, super::words::SPACE)?;
-    print!(rt; "{n}")
-}
-
-// A word and a byte.
-fn coded(rt: &impl Print, word: usize, b: u8) -> io::Result<()> {
-    super::words::say(rt, word)?;
-    byte(rt, b)
-}
-
-fn i_block(rt: &impl Print, number: u8, more: bool) -> io::Result<()> {
-    if more {
-        coded(rt, super::words::I_MORE, number)
-    } else {
-        coded(rt, super::words::I_LAST, number)
+impl<'a> fmt::Display for Hex<'a> {
+    fn fmt<W: fmt::Write>(&self, f: &mut fmt::Formatter<W>) -> fmt::Result {
+        for b in self.0 {
+            write!(f, " {b:02x}")?;
+        }
+        Ok(())
     }
 }
 
-pub(crate) fn event(rt: &impl Print, e: Event) -> io::Result<()> {
-    match e {
-        Event::I { number, more } => i_block(rt, number, more),
-        Event::R { number } => coded(rt, super::words::R, number),
-        Event::IfsRequest { size } => coded(rt, super::words::IFS_REQUEST, size),
-        Event::IfsResponse { size } => coded(rt, super::words::IFS_RESPONSE, size),
-        Event::Abort => super::words::say(rt, super::words::ABORT),
-        Event::Wtx { times } => coded(rt, super::words::WTX, times),
-        Event::Edc => super::words::say(rt, super::words::EDC),
-        Event::Other => super::words::say(rt, super::words::OTHER),
-    }
-}
+// What a block is read as, with the byte that it carries.
+#[derive(Clone, Copy)]
+pub(crate) struct Heard(pub(crate) Event);
 
-// A word and a number.
-fn figure(rt: &impl Print, word: usize, n: u64) -> io::Result<()> {
-    super::words::say(rt, word)?;
-    number(rt, n)
-}
-
-fn times(rt: &impl Print, r: Report) -> io::Result<()> {
-    figure(rt, super::words::IFSC, r.ifsc as u64)?;
-    figure(rt, super::words::DISTANCE, r.distance as u64)?;
-    figure(rt, super::words::CWT, r.cwt as u64)?;
-    figure(rt, super::words::BWT, r.bwt as u64)
-}
-
-fn rates(rt: &impl Print, r: Report) -> io::Result<()> {
-    figure(rt, super::words::D, r.used as u64)?;
-    figure(rt, super::words::HISTORICAL, r.historical as u64)?;
-    figure(rt, super::words::OFFERS_F, r.f as u64)?;
-    figure(rt, super::words::D, r.d as u64)
-}
-
-pub(crate) fn answer(rt: &impl Print, a: Answer) -> io::Result<()> {
-    match a {
-        Answer::Refused { number: n } => figure(rt, super::words::REFUSED, n as u64),
-        Answer::Taken { report: r } => {
-            times(rt, r)?;
-            rates(rt, r)
+impl fmt::Display for Heard {
+    fn fmt<W: fmt::Write>(&self, f: &mut fmt::Formatter<W>) -> fmt::Result {
+        match self.0 {
+            Event::I { number, more } => {
+                let place = if more { "more" } else { "last" };
+                write!(f, "I {place} {number:02x}")
+            }
+            Event::R { number } => write!(f, "R {number:02x}"),
+            Event::IfsRequest { size } => write!(f, "IFS request {size:02x}"),
+            Event::IfsResponse { size } => write!(f, "IFS response {size:02x}"),
+            Event::Abort => write!(f, "abort"),
+            Event::Wtx { times } => write!(f, "WTX {times:02x}"),
+            Event::Edc => write!(f, "EDC"),
+            Event::Other => write!(f, "other"),
         }
     }
+}
+
+// What an ATR asks for.
+#[derive(Clone, Copy)]
+pub(crate) struct Asked(pub(crate) Report);
+
+impl fmt::Display for Asked {
+    fn fmt<W: fmt::Write>(&self, f: &mut fmt::Formatter<W>) -> fmt::Result {
+        let r = self.0;
+        write!(
+            f,
+            "IFSC {} distance {} CWT {} BWT {}",
+            r.ifsc, r.distance, r.cwt, r.bwt
+        )?;
+        write!(
+            f,
+            " D {} historical {} offers F {} D {}",
+            r.used, r.historical, r.f, r.d
+        )
+    }
+}
+
+pub(crate) fn yes_or_no(yes: bool) -> &'static str {
+    if yes { "yes" } else { "no" }
 }

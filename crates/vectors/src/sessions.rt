@@ -1,137 +1,167 @@
-// The calls on slot 0, whose cells are in the region r of a pool. The slot goes in and comes back by value; the numbers 4 to
-// 12 and 2 are answered here, as the rack will.
-use atr::Answer;
+// The calls on slot 0, whose cells are in a pool's region. What a call is refused for is told here, as the rack will.
+use answer::Refusal;
 use slot::{Line, Next, Send, Slot};
 
-// What a call answers: its number, the length of the response that it wrote to the output, and what comes next.
+// What a call answers that is not refused: the length of the response that it wrote to the output, and what comes next.
 #[derive(Clone, Copy)]
 pub(crate) struct Step {
-    pub(crate) number: u8,
     pub(crate) length: usize,
     pub(crate) next: Next,
 }
 
-// 0 to 5: empty, greeting, ready, busy, done, ended.
-pub(crate) fn state_of(slot: Slot) -> u8 {
+// A state's number, as in include/rack.h: the function of `answer` that tells it is private.
+fn number_of(slot: Slot) -> u8 {
     match slot {
         Slot::Empty => 0,
-        Slot::Greeting { line: _, sent: _ } => 1,
-        Slot::Ready { line: _ } => 2,
-        Slot::Busy { talk: _ } => 3,
-        Slot::Done { line: _ } => 4,
+        Slot::Greeting { .. } => 1,
+        Slot::Ready { .. } => 2,
+        Slot::Busy { .. } => 3,
+        Slot::Done { .. } => 4,
         Slot::Ended => 5,
     }
 }
 
-// The slot is as given, and nothing goes out.
-pub(crate) fn still(slot: Slot, number: u8) -> Step {
-    let next = Next {
-        slot: slot,
-        send: Send::Nothing,
-        sent: 0,
-        wait: 0,
-        ending: 0,
-    };
-    Step {
-        number: number,
-        length: 0,
-        next: next,
-    }
+// The first eight bytes, zeros where there are fewer.
+fn eight(bytes: &[u8]) -> [u8; 8] {
+    let mut eight = [0u8; 8];
+    lent::put(&mut eight, 0, lent::part(bytes, 0, 8));
+    eight
 }
 
-// A call that was not refused.
-fn made(next: Next) -> Step {
-    Step {
-        number: 0,
-        length: 0,
-        next: next,
-    }
+// A pool's region, and slot 0.
+#[derive(Drop)]
+pub(crate) struct Seat {
+    region: [u8; 25464],
+    slot: Slot,
 }
 
-pub(crate) fn attach(slot: Slot, bytes: &[u8]) -> Step {
-    if state_of(slot) != 0 {
-        return still(slot, 4);
+impl Seat {
+    pub(crate) fn new() -> Seat {
+        Seat {
+            region: [0xAA; 25464],
+            slot: Slot::Empty,
+        }
     }
-    let answer = reset::read(bytes);
-    match answer {
-        Answer::Refused { number } => still(slot, number),
-        Answer::Taken { report } => made(greeting::attach(report)),
-    }
-}
 
-pub(crate) fn command(slot: Slot, bytes: &[u8]) -> Step {
-    let Slot::Ready { line } = slot else {
-        return still(slot, 4);
-    };
-    if wire::is_command(bytes) {
-        return made(turn::command(line, bytes));
-    }
-    still(slot, 7)
-}
-
-// An event of a kind that there is.
-fn heard(r: &mut [u8], slot: Slot, kind: u64, bytes: &[u8]) -> Step {
-    if let Slot::Greeting { line, sent } = slot {
-        return made(terminal::greet(line, sent, kind, bytes));
-    }
-    let Slot::Busy { talk } = slot else {
-        return still(slot, 4);
-    };
-    made(terminal::event(r, 0, talk, kind, bytes))
-}
-
-// 6 for a kind that there is not, but 4 comes first.
-pub(crate) fn event(r: &mut [u8], slot: Slot, kind: u8, bytes: &[u8]) -> Step {
-    if kind <= 2 {
-        return heard(r, slot, kind as u64, bytes);
-    }
-    let state = state_of(slot);
-    if state == 1 {
-        return still(slot, 6);
-    }
-    if state == 3 {
-        return still(slot, 6);
-    }
-    still(slot, 4)
-}
-
-// Collects into all of the output: 5 if it is too short, and the slot is still done.
-fn collected(r: &mut [u8], line: Line, out: &mut [u8]) -> Step {
-    let length = response::response_length(r, 0);
-    let next = terminal::collect(r, 0, line, out);
-    let then = next.slot;
-    if state_of(then) != 4 {
-        return Step {
-            number: 0,
-            length: length,
-            next: next,
+    // The slot stays, and nothing goes out.
+    pub(crate) fn still(&self) -> Step {
+        let next = Next {
+            slot: self.slot,
+            send: Send::Nothing,
+            sent: 0,
+            wait: 0,
+            ending: 0,
         };
+        Step { length: 0, next }
     }
-    still(then, 5)
-}
 
-// Collects into the first n bytes of the output.
-pub(crate) fn collect(r: &mut [u8], slot: Slot, n: usize, out: &mut [u8]) -> Step {
-    let Slot::Done { line } = slot else {
-        return still(slot, 4);
-    };
-    if n <= out.len() {
-        return collected(r, line, &mut out[..n]);
+    // The slot goes on.
+    fn moved(&mut self, length: usize, next: Next) -> Step {
+        self.slot = next.slot;
+        Step { length, next }
     }
-    still(slot, 5)
-}
 
-pub(crate) fn remove(r: &mut [u8], slot: Slot) -> Step {
-    if state_of(slot) == 0 {
-        return still(slot, 4);
+    pub(crate) fn attach(&mut self, atr: &[u8]) -> Result<Step, Refusal> {
+        let Slot::Empty = self.slot else {
+            return Err(Refusal::State);
+        };
+        let report = reset::read(atr)?;
+        Ok(self.moved(0, greeting::attach(report)))
     }
-    made(terminal::remove(r, 0))
-}
 
-// Open, with eight shares and then eight ceilings.
-pub(crate) fn open(r: &mut [u8], slot: Slot, limits: &[u8]) -> Step {
-    if super::cells::laid(r, limits) {
-        return still(Slot::Empty, 0);
+    pub(crate) fn command(&mut self, bytes: &[u8]) -> Result<Step, Refusal> {
+        let Slot::Ready { line } = self.slot else {
+            return Err(Refusal::State);
+        };
+        if wire::is_command(bytes) {
+            Ok(self.moved(0, turn::command(line, bytes)))
+        } else {
+            Err(Refusal::Form)
+        }
     }
-    still(slot, 2)
+
+    // The state comes before the kind, of which there are three.
+    pub(crate) fn event(&mut self, kind: u8, bytes: &[u8]) -> Result<Step, Refusal> {
+        let next = match self.slot {
+            Slot::Greeting { .. } | Slot::Busy { .. } if kind > 2 => return Err(Refusal::Kind),
+            Slot::Greeting { line, sent } => terminal::greet(line, sent, u64::from(kind), bytes),
+            Slot::Busy { talk } => terminal::event(
+                &mut self.region,
+                0,
+                talk,
+                u64::from(kind),
+                bytes,
+            ),
+            _ => return Err(Refusal::State),
+        };
+        Ok(self.moved(0, next))
+    }
+
+    // Collects into all of the output: refused if it is too short, and the slot is still done.
+    fn collected(&mut self, line: Line, out: &mut [u8]) -> Result<Step, Refusal> {
+        let length = response::response_length(&self.region, 0);
+        let next = terminal::collect(&mut self.region, 0, line, out);
+        match next.slot {
+            Slot::Done { .. } => Err(Refusal::Lent),
+            _ => Ok(self.moved(length, next)),
+        }
+    }
+
+    // Collects into the first n bytes of the output.
+    pub(crate) fn collect(&mut self, n: usize, out: &mut [u8]) -> Result<Step, Refusal> {
+        let Slot::Done { line } = self.slot else {
+            return Err(Refusal::State);
+        };
+        if n <= out.len() {
+            self.collected(line, &mut out[..n])
+        } else {
+            Err(Refusal::Lent)
+        }
+    }
+
+    pub(crate) fn remove(&mut self) -> Result<Step, Refusal> {
+        if let Slot::Empty = self.slot {
+            return Err(Refusal::State);
+        }
+        let next = terminal::remove(&mut self.region, 0);
+        Ok(self.moved(0, next))
+    }
+
+    // Open, with eight shares and then eight ceilings.
+    pub(crate) fn open(&mut self, limits: &[u8]) -> Result<Step, Refusal> {
+        let shares = eight(limits);
+        let ceilings = eight(lent::part(limits, 8, 8));
+        if !pool::lay_out(&mut self.region, &shares, &ceilings) {
+            return Err(Refusal::Limits);
+        }
+        self.slot = Slot::Empty;
+        Ok(self.still())
+    }
+
+    // Appends for another holder.
+    pub(crate) fn append(&mut self, i: u8, piece: &[u8]) -> Step {
+        pool::append(&mut self.region, usize::from(i), piece);
+        self.still()
+    }
+
+    // Releases another holder.
+    pub(crate) fn release(&mut self, i: u8) -> Step {
+        pool::release(&mut self.region, usize::from(i));
+        self.still()
+    }
+
+    // The number of a refusal or 0, what comes next, and what then is held, free and sound.
+    pub(crate) fn numbers(&self, refusal: u8, next: Next, length: usize) -> [usize; 9] {
+        [
+            usize::from(refusal),
+            usize::from(number_of(next.slot)),
+            usize::from(next.ending),
+            next.sent as usize,
+            length,
+            next.wait as usize,
+            usize::from(region::held(&self.region, 0)),
+            usize::from(region::free(&self.region)),
+            super::runs::three_if_sound(&self.region),
+        ]
+    }
 }
