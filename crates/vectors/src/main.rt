@@ -13,6 +13,7 @@ mod runs;
 mod script;
 mod sessions;
 
+use numbers::Number;
 use std::io;
 use std::io::Read;
 
@@ -48,7 +49,7 @@ fn inputs(rt: &(impl Print + Input)) -> io::Result<()> {
     let mut space = [0u8; 65536];
     let n = read_full(rt, &mut space)?;
     let given = &space[..n];
-    let size = usize::from(numbers::get16(given, 0));
+    let size = usize::from(u16::get(given, 0));
     cards::listed(rt, lent::part(given, 2, size))?;
     script::played(rt, lent::part(given, size + 2, n))
 }

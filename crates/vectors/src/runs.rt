@@ -4,6 +4,7 @@ ghost use Rattle.std.specs.Prelude.{◌≡◌, ◌≤◌};
 
 use super::figure::Figure;
 use super::print::Hex;
+use numbers::Number;
 use std::io;
 
 // The number after x in a row that looks mixed.
@@ -86,10 +87,10 @@ pub(crate) fn mixed(rt: &impl Print, r: &mut [u8]) -> io::Result<()> {
 fn survives<F: Fn(u8) -> u8>(r: &mut [u8], a: usize, change: &F) -> bool
     requires { F.IsAlwaysCallable change.now }
 {
-    let b = numbers::get8(r, a);
-    numbers::put8(r, a, change(b));
+    let b = u8::get(r, a);
+    change(b).put(r, a);
     let yes = sound::is_sound(r);
-    numbers::put8(r, a, b);
+    b.put(r, a);
     yes
 }
 

@@ -4,6 +4,7 @@ use super::figure::Figure;
 use super::print::Hex;
 use super::sessions::{Seat, Step};
 use answer::Refusal;
+use numbers::Number;
 use std::io;
 
 // Which call; those with no name release too.
@@ -87,9 +88,7 @@ impl Player {
             Op::Attach => self.seat.attach(bytes),
             Op::Command => self.seat.command(bytes),
             Op::Event => self.seat.event(call.number, bytes),
-            Op::Collect => self
-                .seat
-                .collect(usize::from(numbers::get16(bytes, 0)), out),
+            Op::Collect => self.seat.collect(usize::from(u16::get(bytes, 0)), out),
             Op::Remove => self.seat.remove(),
             Op::Open => self.seat.open(bytes),
             Op::Append => Ok(self.seat.append(call.number, bytes)),
@@ -154,8 +153,8 @@ pub(crate) fn played(rt: &impl Print, script: &[u8]) -> io::Result<()> {
     let mut rest = script;
     // The last line may end before its four bytes do: what is missing of them is 0.
     while !rest.is_empty() {
-        let code = numbers::get8(rest, 0);
-        let n = usize::from(numbers::get16(rest, 2));
+        let code = u8::get(rest, 0);
+        let n = usize::from(u16::get(rest, 2));
         let bytes = lent::part(rest, 4, n);
         if code == 0 {
             player.name(rt, bytes)?;
@@ -165,7 +164,7 @@ pub(crate) fn played(rt: &impl Print, script: &[u8]) -> io::Result<()> {
                 Call {
                     op: Op::from(code % 128),
                     quiet: code >= 128,
-                    number: numbers::get8(rest, 1),
+                    number: u8::get(rest, 1),
                     bytes,
                 },
             )?;
