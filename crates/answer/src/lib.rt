@@ -4,14 +4,14 @@
 
 ghost use Rattle.std.specs.Prelude.{◌≡◌};
 ghost use Rattle.session.specs.Call.{refuses};
-ghost use Rattle.slot.specs.View.{slot_no};
 ghost use Rattle.answer.specs.Record.{front_bytes, report_bytes, told, told_of};
 
 mod refusal;
 
 use atr::Report;
+use entry::State;
 pub use refusal::Refusal;
-use slot::{Next, Slot};
+use slot::Next;
 
 // bytes in a record
 pub const RECORD: usize = 64;
@@ -31,20 +31,6 @@ pub fn refuse(rec: &mut [u8], number: u8)
     let mut record = [0u8; RECORD];
     record[0] = number;
     lent::put(rec, FRONT, &record);
-}
-
-// The state, 0 to 5.
-fn state(x: Slot) -> u8
-    ensures { result ≡ slot_no x }
-{
-    match x {
-        Slot::Empty => 0,
-        Slot::Greeting { .. } => 1,
-        Slot::Ready { .. } => 2,
-        Slot::Busy { .. } => 3,
-        Slot::Done { .. } => 4,
-        Slot::Ended => 5,
-    }
 }
 
 // Number 0, state, ending, blocks sent, length written, wait.
@@ -83,7 +69,8 @@ pub fn tell(rec: &mut [u8], n: Next, written: usize, r: Report)
     if rec.len() < RECORD {
         return;
     }
-    let front = front(state(n.slot), n.ending, n.sent, written, n.wait);
+    let state = u8::from(State::from(n.slot));
+    let front = front(state, n.ending, n.sent, written, n.wait);
     lent::put(rec, FRONT, &front);
     lent::put(rec, REPORT, &report(r));
     lent::fill(rec, REST, REST_SIZE, 0);

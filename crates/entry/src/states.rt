@@ -1,6 +1,9 @@
 // The states of a slot, each a number in its entry.
 ghost use Rattle.std.specs.Prelude.{◌≡◌};
+ghost use Rattle.slot.specs.View.{slot_no};
 ghost use Rattle.entry.specs.State.{state_number, Decodes};
+
+use slot::Slot;
 
 #[derive(Clone, Copy, Debug, PartialEq, Eq)]
 pub enum State {
@@ -39,5 +42,21 @@ impl From<State> for u8 {
 
     fn from(state: State) -> u8 {
         state as u8
+    }
+}
+
+// The state of a slot.
+impl From<Slot> for State {
+    ghost from_gives = { λ slot state. state_number state ≡ slot_no slot };
+
+    fn from(slot: Slot) -> State {
+        match slot {
+            Slot::Empty => State::Empty,
+            Slot::Greeting { .. } => State::Greeting,
+            Slot::Ready { .. } => State::Ready,
+            Slot::Busy { .. } => State::Busy,
+            Slot::Done { .. } => State::Done,
+            Slot::Ended => State::Ended,
+        }
     }
 }

@@ -1,5 +1,6 @@
 // The calls on slot 0, whose cells are in a pool's region. What a call is refused for is told here, as the rack will.
 use answer::Refusal;
+use entry::State;
 use slot::{Line, Next, Send, Slot};
 
 // What a call answers that is not refused: the length of the response that it wrote to the output, and what comes next.
@@ -7,18 +8,6 @@ use slot::{Line, Next, Send, Slot};
 pub(crate) struct Step {
     pub(crate) length: usize,
     pub(crate) next: Next,
-}
-
-// A state's number, as in include/rack.h: the function of `answer` that tells it is private.
-fn number_of(slot: Slot) -> u8 {
-    match slot {
-        Slot::Empty => 0,
-        Slot::Greeting { .. } => 1,
-        Slot::Ready { .. } => 2,
-        Slot::Busy { .. } => 3,
-        Slot::Done { .. } => 4,
-        Slot::Ended => 5,
-    }
 }
 
 // The first eight bytes, zeros where there are fewer.
@@ -154,7 +143,7 @@ impl Seat {
     pub(crate) fn numbers(&self, refusal: u8, next: Next, length: usize) -> [usize; 9] {
         [
             usize::from(refusal),
-            usize::from(number_of(next.slot)),
+            usize::from(u8::from(State::from(next.slot))),
             usize::from(next.ending),
             next.sent as usize,
             length,
