@@ -1,3 +1,3 @@
--- The parts of an event put together, and that its promise settles its bytes.
+-- What an event leaves, and that its promise settles its bytes.
 pub mod PartLaws
 pub mod Settled

@@ -1,3 +1,2 @@
--- What an event does, while greeting and while busy (Parts), and put together (Event).
-pub mod Parts
+-- What an event leaves.
 pub mod Event

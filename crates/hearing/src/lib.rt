@@ -1,42 +1,38 @@
 // An event on a slot that is greeting or busy: the pool's region, the entry, the block that goes out, the record.
 #![tactic(auto)]
 
-ghost use Rattle.std.specs.Prelude.{◌≡◌, ◌≤◌, length};
-ghost use Rattle.slot.specs.Blocks.{sent_out};
-ghost use Rattle.table.specs.Layout.{table_size, command_in, with_slot};
-ghost use Rattle.hearing.specs.Parts.{told_by, greeted_in, heard_in, heard_pool};
-ghost use Rattle.hearing.specs.Event.{event_table, event_out, event_record};
+ghost use Rattle.std.specs.Prelude.{◌≡◌, ◌≤◌, eqb, length};
+ghost use Rattle.entry.specs.Entry.{state_in};
+ghost use Rattle.table.specs.Layout.{table_size, entry_in};
+ghost use Rattle.hearing.specs.Event.{event_in, event_pool, event_table, event_out, event_record};
 
-// An event on slot i, which is greeting.
-fn greet(t: &mut [u8], i: usize, kind: u64, bytes: &[u8], out: &mut [u8], rec: &mut [u8])
-    ensures t_after { t.new ≡ with_slot t.old i (greeted_in t.old i kind bytes.now).slot }
-    ensures out_after { out.new ≡ sent_out out.old (greeted_in t.old i kind bytes.now).send (command_in t.old i) }
-    ensures rec_after { rec.new ≡ told_by rec.old out.old (greeted_in t.old i kind bytes.now) (command_in t.old i) }
+use entry::State;
+use slot::Next;
+
+fn is_greeting(t: &[u8], i: usize) -> bool
+    ensures { result ≡ eqb (state_in (entry_in t.now i)) 1 }
 {
-    let w = table::entry(t, i);
-    let n = terminal::greet(entry::line(w), entry::sent(w), kind, bytes);
-    outgoing::finish(t, i, n, outgoing::none(), out, rec);
+    entry::state(table::entry(t, i)) == Some(State::Greeting)
 }
 
-// An event on slot i, which is busy.
-fn hear(t: &mut [u8], i: usize, kind: u64, bytes: &[u8], out: &mut [u8], rec: &mut [u8])
+// What an event on slot i gives. Where the slot is busy the pool's region takes the event.
+#[tactic(auto, using(table::proofs::WriteLaws::pool_same, table::proofs::WriteLaws::pool_back), unfolding(call::specs::Call::next_of, call::specs::Call::pool_after, table::specs::Layout::pool_in, lent::specs::Place::window))]
+fn next(t: &mut [u8], i: usize, kind: u64, bytes: &[u8]) -> Next
     requires { table_size ≤ length t.old }
-    ensures t_after { t.new ≡ with_slot (heard_pool t.old i kind bytes.now) i (heard_in t.old i kind bytes.now).slot }
-    ensures out_after { out.new ≡ sent_out out.old (heard_in t.old i kind bytes.now).send (command_in (heard_pool t.old i kind bytes.now) i) }
-    ensures rec_after { rec.new ≡ told_by rec.old out.old (heard_in t.old i kind bytes.now) (command_in (heard_pool t.old i kind bytes.now) i) }
+    ensures value { result ≡ event_in t.old i kind bytes.now }
+    ensures t_after { t.new ≡ event_pool t.old i kind bytes.now }
 {
-    let talk = entry::talk(table::entry(t, i));
-    let n = terminal::event(
-        &mut t[table::layout::POOL..table::layout::SLOTS],
-        i,
-        talk,
-        kind,
-        bytes,
-    );
-    outgoing::finish(t, i, n, outgoing::none(), out, rec);
+    let entry = table::entry(t, i);
+    if is_greeting(t, i) {
+        return terminal::greet(entry::line(entry), entry::sent(entry), kind, bytes);
+    }
+    let talk = entry::talk(entry);
+    let pool = &mut t[table::layout::POOL..table::layout::SLOTS];
+    terminal::event(pool, i, talk, kind, bytes)
 }
 
 // An event on slot i, which is greeting or busy. Where t has fewer than 32,768 bytes nothing is done.
+#[tactic(auto, unfolding(crate::specs::Event::event_table, crate::specs::Event::event_out, crate::specs::Event::event_record))]
 pub fn event(t: &mut [u8], i: usize, kind: u64, bytes: &[u8], out: &mut [u8], rec: &mut [u8])
     ensures t_after { t.new ≡ event_table t.old i kind bytes.now }
     ensures out_after { out.new ≡ event_out t.old i kind bytes.now out.old }
@@ -45,8 +41,6 @@ pub fn event(t: &mut [u8], i: usize, kind: u64, bytes: &[u8], out: &mut [u8], re
     if t.len() < table::layout::TABLE {
         return;
     }
-    if numbers::get8(table::entry(t, i), entry::layout::STATE) == 1 {
-        return greet(t, i, kind, bytes, out, rec);
-    }
-    hear(t, i, kind, bytes, out, rec)
+    let n = next(t, i, kind, bytes);
+    outgoing::finish(t, i, n, outgoing::none(), out, rec);
 }

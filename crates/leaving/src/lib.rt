@@ -14,12 +14,12 @@ fn leave(t: &mut [u8], i: usize, n: Next, written: usize, rec: &mut [u8])
     ensures t_after { t.new ≡ with_slot t.old i n.slot }
     ensures rec_after { rec.new ≡ told_of rec.old n written zeros }
 {
-    let slot = n.slot;
-    table::store(t, i, slot);
+    table::store(t, i, n.slot);
     answer::tell(rec, n, written, outgoing::none());
 }
 
 // Collect on slot i, which is done: its response goes to the output. Where t has fewer than 32,768 bytes nothing is done.
+#[tactic(auto, using(table::proofs::WriteLaws::pool_back), unfolding(crate::specs::Leave::collect_table, crate::specs::Leave::collect_out, crate::specs::Leave::collect_record, table::specs::Layout::pool_in, lent::specs::Place::window))]
 pub fn collect(t: &mut [u8], i: usize, out: &mut [u8], rec: &mut [u8])
     ensures t_after { t.new ≡ collect_table t.old i out.old }
     ensures out_after { out.new ≡ collect_out t.old i out.old }
@@ -30,16 +30,13 @@ pub fn collect(t: &mut [u8], i: usize, out: &mut [u8], rec: &mut [u8])
     }
     let written = response::response_length(table::pool(t), i);
     let line = entry::line(table::entry(t, i));
-    let n = terminal::collect(
-        &mut t[table::layout::POOL..table::layout::SLOTS],
-        i,
-        line,
-        out,
-    );
+    let pool = &mut t[table::layout::POOL..table::layout::SLOTS];
+    let n = terminal::collect(pool, i, line, out);
     leave(t, i, n, written, rec);
 }
 
 // Remove on slot i: it is empty. Where t has fewer than 32,768 bytes nothing is done.
+#[tactic(auto, using(table::proofs::WriteLaws::pool_back), unfolding(crate::specs::Leave::remove_table, crate::specs::Leave::remove_record, table::specs::Layout::pool_in, lent::specs::Place::window))]
 pub fn remove(t: &mut [u8], i: usize, rec: &mut [u8])
     ensures t_after { t.new ≡ remove_table t.old i }
     ensures rec_after { rec.new ≡ remove_record t.old rec.old }
@@ -47,6 +44,7 @@ pub fn remove(t: &mut [u8], i: usize, rec: &mut [u8])
     if t.len() < table::layout::TABLE {
         return;
     }
-    let n = terminal::remove(&mut t[table::layout::POOL..table::layout::SLOTS], i);
+    let pool = &mut t[table::layout::POOL..table::layout::SLOTS];
+    let n = terminal::remove(pool, i);
     leave(t, i, n, 0, rec);
 }

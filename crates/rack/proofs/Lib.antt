@@ -1,2 +1,3 @@
--- That each call's promise settles all that it gives.
+-- What a refusal says of the call, and that each call's promise settles all that it gives.
+pub mod RefusedLaws
 pub mod Settled

@@ -3,18 +3,20 @@ ghost use Rattle.std.specs.Prelude.{◌≡◌};
 ghost use Rattle.lent.specs.Place.{splice};
 ghost use Rattle.session.specs.Call.{refuses};
 ghost use Rattle.answer.specs.Record.{told};
+ghost use Rattle.answer.specs.Refusal.{refusal_no};
 ghost use Rattle.call.specs.Call.{attaching, commanding, hearing, collecting, removing, answer, table_after};
 ghost use Rattle.call.specs.Open.{open_answer, opened};
 
-use atr::Answer;
+use answer::Refusal;
 
 // Writes a refusal into the record and returns its number.
-fn refused(rec: &mut [u8], number: u8) -> u64
-    ensures value { result ≡ number }
-    ensures rec_after { rec.new ≡ told rec.old (refuses number) }
+fn refused(rec: &mut [u8], refusal: Refusal) -> u64
+    ensures value { result ≡ refusal_no refusal }
+    ensures rec_after { rec.new ≡ told rec.old (refuses (refusal_no refusal)) }
 {
+    let number = u8::from(refusal);
     answer::refuse(rec, number);
-    number as u64
+    u64::from(number)
 }
 
 // Open: a fresh table with these shares and ceilings.
@@ -23,13 +25,15 @@ pub fn rack_open(table: &mut [u8], shares: &[u8; 8], ceilings: &[u8; 8], rec: &m
     ensures table_after { table.new ≡ opened table.old shares.now ceilings.now rec.old }
     ensures rec_after { rec.new ≡ told rec.old (open_answer table.old shares.now ceilings.now rec.old) }
 {
-    let number = super::opening::open(table.len(), shares, ceilings, rec.len());
-    if number != 0 {
-        return refused(rec, number);
+    match super::opening::open(table.len(), shares, ceilings, rec.len()) {
+        Ok(()) => {
+            table::lay_out(table, shares, ceilings);
+            // number 0, state empty and all else 0
+            answer::refuse(rec, 0);
+            0
+        }
+        Err(refusal) => refused(rec, refusal),
     }
-    table::lay_out(table, shares, ceilings);
-    // number 0, state empty and all else 0
-    refused(rec, 0)
 }
 
 // Attach: a card with this ATR in an empty slot. S(IFS request) goes out.
@@ -39,16 +43,12 @@ pub fn rack_attach(table: &mut [u8], slot: u64, atr: &[u8], out: &mut [u8], rec:
     ensures out_after { out.new ≡ splice out.old 0 (answer table.old slot (attaching table.old out.old rec.old atr.now)).out }
     ensures rec_after { rec.new ≡ told rec.old (answer table.old slot (attaching table.old out.old rec.old atr.now)) }
 {
-    let number = super::refusal::attach(table, slot, out.len(), rec.len());
-    if number != 0 {
-        return refused(rec, number);
-    }
-    match reset::read(atr) {
-        Answer::Refused { number } => refused(rec, number),
-        Answer::Taken { report } => {
+    match super::refusal::attach(table, slot, atr, out.len(), rec.len()) {
+        Ok(report) => {
             outgoing::attach(table, slot as usize, report, out, rec);
             0
         }
+        Err(refusal) => refused(rec, refusal),
     }
 }
 
@@ -65,12 +65,13 @@ pub fn rack_command(
     ensures out_after { out.new ≡ splice out.old 0 (answer table.old slot (commanding table.old out.old rec.old bytes.now)).out }
     ensures rec_after { rec.new ≡ told rec.old (answer table.old slot (commanding table.old out.old rec.old bytes.now)) }
 {
-    let number = super::refusal::command(table, slot, bytes, out.len(), rec.len());
-    if number != 0 {
-        return refused(rec, number);
+    match super::refusal::command(table, slot, bytes, out.len(), rec.len()) {
+        Ok(()) => {
+            outgoing::command(table, slot as usize, bytes, out, rec);
+            0
+        }
+        Err(refusal) => refused(rec, refusal),
     }
-    outgoing::command(table, slot as usize, bytes, out, rec);
-    0
 }
 
 // Event: what the card sent (kind 0), a parity fault (1), or silence (2).
@@ -87,12 +88,13 @@ pub fn rack_event(
     ensures out_after { out.new ≡ splice out.old 0 (answer table.old slot (hearing table.old out.old rec.old kind bytes.now)).out }
     ensures rec_after { rec.new ≡ told rec.old (answer table.old slot (hearing table.old out.old rec.old kind bytes.now)) }
 {
-    let number = super::refusal::event(table, slot, kind, out.len(), rec.len());
-    if number != 0 {
-        return refused(rec, number);
+    match super::refusal::event(table, slot, kind, out.len(), rec.len()) {
+        Ok(()) => {
+            hearing::event(table, slot as usize, kind, bytes, out, rec);
+            0
+        }
+        Err(refusal) => refused(rec, refusal),
     }
-    hearing::event(table, slot as usize, kind, bytes, out, rec);
-    0
 }
 
 // Collect: the response of a slot that is done.
@@ -102,12 +104,13 @@ pub fn rack_collect(table: &mut [u8], slot: u64, out: &mut [u8], rec: &mut [u8])
     ensures out_after { out.new ≡ splice out.old 0 (answer table.old slot (collecting table.old out.old rec.old)).out }
     ensures rec_after { rec.new ≡ told rec.old (answer table.old slot (collecting table.old out.old rec.old)) }
 {
-    let number = super::refusal::collect(table, slot, out.len(), rec.len());
-    if number != 0 {
-        return refused(rec, number);
+    match super::refusal::collect(table, slot, out.len(), rec.len()) {
+        Ok(()) => {
+            leaving::collect(table, slot as usize, out, rec);
+            0
+        }
+        Err(refusal) => refused(rec, refusal),
     }
-    leaving::collect(table, slot as usize, out, rec);
-    0
 }
 
 // Remove: the slot is empty.
@@ -116,10 +119,11 @@ pub fn rack_remove(table: &mut [u8], slot: u64, rec: &mut [u8]) -> u64
     ensures table_after { table.new ≡ table_after table.old slot (removing table.old rec.old) }
     ensures rec_after { rec.new ≡ told rec.old (answer table.old slot (removing table.old rec.old)) }
 {
-    let number = super::refusal::remove(table, slot, rec.len());
-    if number != 0 {
-        return refused(rec, number);
+    match super::refusal::remove(table, slot, rec.len()) {
+        Ok(()) => {
+            leaving::remove(table, slot as usize, rec);
+            0
+        }
+        Err(refusal) => refused(rec, refusal),
     }
-    leaving::remove(table, slot as usize, rec);
-    0
 }

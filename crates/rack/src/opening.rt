@@ -1,19 +1,28 @@
 // Refusals of open.
 ghost use Rattle.std.specs.Prelude.{◌≡◌};
+ghost use Rattle.answer.specs.Refusal.{returned_no};
 ghost use Rattle.call.specs.Open.{open_refusal};
 
-// Open: 1, 2 and 5.
-pub(crate) fn open(table: usize, shares: &[u8; 8], ceilings: &[u8; 8], rec: usize) -> u8
-    ensures { result ≡ open_refusal table shares.now ceilings.now rec }
+use answer::Refusal;
+
+// The table's length, the limits, the record's length.
+#[tactic(auto, unfolding(call::specs::Open::open_refusal))]
+pub(crate) fn open(
+    table: usize,
+    shares: &[u8; 8],
+    ceilings: &[u8; 8],
+    rec: usize,
+) -> Result<(), Refusal>
+    ensures { returned_no result ≡ open_refusal table shares.now ceilings.now rec }
 {
     if table < table::layout::TABLE {
-        return 1;
+        return Err(Refusal::Table);
     }
     if !region::acceptable(shares, ceilings) {
-        return 2;
+        return Err(Refusal::Limits);
     }
-    if answer::RECORD <= rec {
-        return 0;
+    if rec < answer::RECORD {
+        return Err(Refusal::Lent);
     }
-    5
+    Ok(())
 }

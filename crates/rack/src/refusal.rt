@@ -1,118 +1,130 @@
-// Refusals 1 to 7: the lowest number that applies, 0 where none does. 8 to 12 are the ATR reader's.
-ghost use Rattle.std.specs.Prelude.{◌≡◌, not, ◌||◌, [], ◌∷◌, eqb, ltb, length};
-ghost use Rattle.session.specs.Call.{command, event, collect, remove};
-ghost use Rattle.session.specs.Refusal.{◌when◌, first};
+// Refusals of the calls on a slot: the lowest number that applies.
+ghost use Rattle.std.specs.Prelude.{◌≡◌, not, ◌||◌, [], ◌∷◌, eqb, ltb, length, IfOk};
+ghost use Rattle.atr.specs.Answer.{answer_of, report_in};
+ghost use Rattle.session.specs.Call.{attach, command, event, collect, remove};
 ghost use Rattle.entry.specs.Entry.{state_in};
+ghost use Rattle.entry.specs.State.{state_number};
 ghost use Rattle.table.specs.Layout.{entry_in};
+ghost use Rattle.answer.specs.Refusal.{returned_no};
 ghost use Rattle.call.specs.Call.{lends, shared, refusal_of};
+
+use answer::Refusal;
+use atr::Report;
+use entry::State;
 
 // the output that a block needs
 const SENDING: usize = 258;
 
-// The lowest number that applies, of the tests that all calls on a slot share.
-fn lowest(unsound: bool, beyond: bool, wrong: bool, short: bool) -> u8
-    ensures { result ≡ first ((1 when unsound) ∷ (3 when beyond) ∷ (4 when wrong) ∷ (5 when short) ∷ []) }
+// The tests that all calls on a slot share, of flags for the state and the lengths lent.
+fn tried(t: &[u8], slot: u64, wrong: bool, short: bool) -> Result<(), Refusal>
+    ensures { returned_no result ≡ shared t.now slot wrong short }
 {
-    if unsound {
-        return 1;
+    if !table::is_sound(t) {
+        return Err(Refusal::Table);
     }
-    if beyond {
-        return 3;
+    if 7 < slot {
+        return Err(Refusal::Slot);
     }
     if wrong {
-        return 4;
+        return Err(Refusal::State);
     }
     if short {
-        return 5;
+        return Err(Refusal::Lent);
     }
-    0
+    Ok(())
 }
 
-// 1 and 3, then 4 if the state is wrong, and 5 if too few bytes are lent.
-fn tried(t: &[u8], slot: u64, wrong: bool, short: bool) -> u8
-    ensures { result ≡ shared t.now slot wrong short }
+// Whether the slot is in this state; one that isn't there is empty.
+fn is_in(t: &[u8], slot: u64, state: State) -> bool
+    ensures { result ≡ eqb (state_in (entry_in t.now slot)) (state_number state) }
 {
-    lowest(!table::is_sound(t), 7 < slot, wrong, short)
+    entry::state(table::entry(t, slot as usize)) == Some(state)
 }
 
-// The state in a slot's entry; 0 where there is no such slot.
-fn state(t: &[u8], slot: u64) -> u8
-    ensures { result ≡ state_in (entry_in t.now slot) }
+// Greeting or busy.
+fn is_awaiting(t: &[u8], slot: u64) -> bool
+    ensures { result ≡ (eqb (state_in (entry_in t.now slot)) 1 || eqb (state_in (entry_in t.now slot)) 3) }
 {
-    numbers::get8(table::entry(t, slot as usize), entry::layout::STATE)
+    matches!(
+        entry::state(table::entry(t, slot as usize)),
+        Some(State::Greeting | State::Busy)
+    )
 }
 
 // Record shorter than 64 bytes, or output shorter than it needs to be.
 fn is_short(rec: usize, out: usize, need: usize) -> bool
     ensures { result ≡ (ltb rec 64 || ltb out need) }
 {
-    if rec < answer::RECORD {
-        return true;
-    }
-    out < need
+    rec < answer::RECORD || out < need
 }
 
-// Attach needs empty. The ATR is read after these tests.
-pub(crate) fn attach(t: &[u8], slot: u64, out: usize, rec: usize) -> u8
-    ensures { result ≡ shared t.now slot (not (eqb (state_in (entry_in t.now slot)) 0)) (ltb rec 64 || ltb out 258) }
+// Attach needs empty, and then an ATR that is on our terms.
+pub(crate) fn attach(
+    t: &[u8],
+    slot: u64,
+    atr: &[u8],
+    out: usize,
+    rec: usize,
+) -> Result<Report, Refusal>
+    ensures number { returned_no result ≡ refusal_of t.now slot (attach (lends (length t.now) out rec) atr.now) }
+    ensures report { IfOk result (λ report. report ≡ report_in (answer_of atr.now)) }
 {
-    tried(t, slot, state(t, slot) != 0, is_short(rec, out, SENDING))
+    tried(
+        t,
+        slot,
+        !is_in(t, slot, State::Empty),
+        is_short(rec, out, SENDING),
+    )?;
+    Ok(reset::read(atr)?)
 }
 
 // Command needs ready, and a good form.
-pub(crate) fn command(t: &[u8], slot: u64, bytes: &[u8], out: usize, rec: usize) -> u8
-    ensures { result ≡ refusal_of t.now slot (command (lends (length t.now) out rec) bytes.now) }
+pub(crate) fn command(
+    t: &[u8],
+    slot: u64,
+    bytes: &[u8],
+    out: usize,
+    rec: usize,
+) -> Result<(), Refusal>
+    ensures { returned_no result ≡ refusal_of t.now slot (command (lends (length t.now) out rec) bytes.now) }
 {
-    let n = tried(t, slot, state(t, slot) != 2, is_short(rec, out, SENDING));
-    if n != 0 {
-        return n;
-    }
+    tried(
+        t,
+        slot,
+        !is_in(t, slot, State::Ready),
+        is_short(rec, out, SENDING),
+    )?;
     if wire::is_command(bytes) {
-        return 0;
+        Ok(())
+    } else {
+        Err(Refusal::Form)
     }
-    7
-}
-
-// Greeting or busy.
-fn is_awaiting(state: u8) -> bool
-    ensures { result ≡ (eqb state 1 || eqb state 3) }
-{
-    if state == 1 {
-        return true;
-    }
-    state == 3
 }
 
 // Event needs greeting or busy, and a kind of 0 to 2. Its bytes are not looked at here.
-pub(crate) fn event(t: &[u8], slot: u64, kind: u64, out: usize, rec: usize) -> u8
-    ensures { result ≡ refusal_of t.now slot (event (lends (length t.now) out rec) kind []) }
+pub(crate) fn event(t: &[u8], slot: u64, kind: u64, out: usize, rec: usize) -> Result<(), Refusal>
+    ensures { returned_no result ≡ refusal_of t.now slot (event (lends (length t.now) out rec) kind []) }
 {
-    let n = tried(
-        t,
-        slot,
-        !is_awaiting(state(t, slot)),
-        is_short(rec, out, SENDING),
-    );
-    if n != 0 {
-        return n;
-    }
-    if 2 < kind {
-        return 6;
-    }
-    0
+    tried(t, slot, !is_awaiting(t, slot), is_short(rec, out, SENDING))?;
+    if 2 < kind { Err(Refusal::Kind) } else { Ok(()) }
 }
 
 // Collect needs done, and an output that holds the response.
-pub(crate) fn collect(t: &[u8], slot: u64, out: usize, rec: usize) -> u8
-    ensures { result ≡ refusal_of t.now slot (collect (lends (length t.now) out rec)) }
+pub(crate) fn collect(t: &[u8], slot: u64, out: usize, rec: usize) -> Result<(), Refusal>
+    ensures { returned_no result ≡ refusal_of t.now slot (collect (lends (length t.now) out rec)) }
 {
     let need = response::response_length(table::pool(t), slot as usize);
-    tried(t, slot, state(t, slot) != 4, is_short(rec, out, need))
+    tried(
+        t,
+        slot,
+        !is_in(t, slot, State::Done),
+        is_short(rec, out, need),
+    )
 }
 
 // Remove needs anything but empty.
-pub(crate) fn remove(t: &[u8], slot: u64, rec: usize) -> u8
-    ensures { result ≡ refusal_of t.now slot (remove (lends (length t.now) 0 rec)) }
+pub(crate) fn remove(t: &[u8], slot: u64, rec: usize) -> Result<(), Refusal>
+    ensures { returned_no result ≡ refusal_of t.now slot (remove (lends (length t.now) 0 rec)) }
 {
-    tried(t, slot, state(t, slot) == 0, is_short(rec, 0, 0))
+    tried(t, slot, is_in(t, slot, State::Empty), is_short(rec, 0, 0))
 }

@@ -9,37 +9,37 @@ use mathlib.Core.Path.{◌∙◌, ◌≡◌, refl, sym}
 use lib.ListN.{length}
 use Rattle.call.proofs.AnswerLaws as call
 use Rattle.hearing.proofs.PartLaws as heard
+use Rattle.rack.proofs.RefusedLaws.{err_leaves}
 use Rattle.rack.proofs.exports.rack_event.Goals as goal
 
-pub returns-then-number-ne0 : goal.returns-then-number-ne0
-returns-then-number-ne0 c =
-    let a = c.args in
-    let t = a.table.now in
-    let out = a.out.now in
-    let rec = a.rec.now in
-    let bs = a.bytes.now in
-    let f = call.refused t out rec a.slot (hearing t out rec a.kind bs) c.event-number.result (event-refusal t a.slot (lends (length t) (length out) (length rec)) a.kind bs ∙ sym c.event-number.ensures) c.if-number-ne0.true in record {
-      value = c.refused.ensures.value ∙ f.0;
-      table_after = f.1.0;
-      out_after = f.1.1.0;
-      rec_after = c.refused.ensures.rec_after ∙ f.1.1.1;
-    }
-
-pub returns : goal.returns
-returns c =
+pub returns-in-Ok : goal.returns-in-Ok
+returns-in-Ok c =
     let a = c.args in
     let t = a.table.now in
     let out = a.out.now in
     let rec = a.rec.now in
     let bs = a.bytes.now in
     let none : refusal_of t a.slot (hearing t out rec a.kind bs) ≡ 0 =
-    event-refusal t a.slot (lends (length t) (length out) (length rec)) a.kind bs ∙ sym c.event-number.ensures ∙ c.if-number-ne0.false in
+    event-refusal t a.slot (lends (length t) (length out) (length rec)) a.kind bs ∙ sym c.in-Ok.ensures in
     let n = event_in t a.slot a.kind bs in
     let v = event_pool t a.slot a.kind bs in
     let g = heard.left_long t out rec a.slot a.kind bs (sound_long t (none_sound t a.slot (hearing t out rec a.kind bs) none)) in
     let f = call.event_leaves t out rec a.slot n (sent_length out n.send (command_in v a.slot)) (lends 0 0 0) a.kind bs v none refl refl refl in record {
       value = f.0;
-      table_after = c.event.ensures.t_after ∙ sym g.0 ∙ f.1.0;
-      out_after = c.event.ensures.out_after ∙ sym g.1 ∙ f.1.1.0;
-      rec_after = c.event.ensures.rec_after ∙ sym g.2 ∙ f.1.1.1;
+      table_after = c.event-in-Ok.ensures.t_after ∙ sym g.0 ∙ f.1.0;
+      out_after = c.event-in-Ok.ensures.out_after ∙ sym g.1 ∙ f.1.1.0;
+      rec_after = c.event-in-Ok.ensures.rec_after ∙ sym g.2 ∙ f.1.1.1;
+    }
+
+pub returns-in-Err : goal.returns-in-Err
+returns-in-Err c =
+    let a = c.args in
+    let t = a.table.now in
+    let out = a.out.now in
+    let rec = a.rec.now in
+    let f = err_leaves t out rec a.slot (hearing t out rec a.kind a.bytes.now) c.in-Err.refusal (c.in-Err.ensures ∙ sym (event-refusal t a.slot (lends (length t) (length out) (length rec)) a.kind a.bytes.now)) in record {
+      value = c.refused.ensures.value ∙ f.0;
+      table_after = f.1.0;
+      out_after = f.1.1.0;
+      rec_after = c.refused.ensures.rec_after ∙ f.1.1.1;
     }

@@ -19,5 +19,5 @@ returns c =
     let short = ltb a.rec 64 || ltb a.out (length (response (pool_in t) a.slot)) in
     let need = c.response_length-need.ensures ∙ ap (λ (r : List ℕ). length (response r a.slot)) c.pool.ensures in
     let b : c.is_short.result ≡ short = c.is_short.ensures ∙ ap (λ (n : ℕ). ltb a.rec 64 || ltb a.out n) need in
-    let n = c.tried.ensures ∙ ap₂ (λ (s : ℕ) (q : Bool). shared t a.slot (not (eqb s 4)) q) c.state.ensures b in
+    let n = c.tried.ensures ∙ ap₂ (λ (s q : Bool). shared t a.slot (not s) q) c.is_in.ensures b in
     n ∙ sym (tried t a.slot x short (collect-short t a.slot (lends (length t) a.out a.rec)) ∙ or_none _)

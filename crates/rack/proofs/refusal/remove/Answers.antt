@@ -13,5 +13,5 @@ returns c =
     let a = c.args in
     let t = a.t.now in
     let x = remove (lends (length t) 0 a.rec) in
-    let n = c.tried.ensures ∙ ap₂ (λ (s : ℕ) (q : Bool). shared t a.slot (eqb s 0) q) c.state.ensures c.is_short.ensures in
+    let n = c.tried.ensures ∙ ap₂ (shared t a.slot) c.is_in.ensures c.is_short.ensures in
     n ∙ sym (tried t a.slot x (ltb a.rec 64 || ltb 0 0) (λ s h. refl) ∙ or_none _)
