@@ -31,7 +31,8 @@ fn next(t: &mut [u8], i: usize, kind: u64, bytes: &[u8]) -> Next
     terminal::event(pool, i, talk, kind, bytes)
 }
 
-// An event on slot i, which is greeting or busy. Where t has fewer than 32,768 bytes nothing is done.
+// An event on slot i, which is greeting or busy. Where t has fewer than 32,768 bytes nothing is done. The kind is C's
+// number, since `event_table` speaks of each.
 #[tactic(auto, unfolding(crate::specs::Event::event_table, crate::specs::Event::event_out, crate::specs::Event::event_record))]
 pub fn event(t: &mut [u8], i: usize, kind: u64, bytes: &[u8], out: &mut [u8], rec: &mut [u8])
     ensures t_after { t.new ≡ event_table t.old i kind bytes.now }
