@@ -1,6 +1,6 @@
 -- What a refusal's number says of the call. Assumes nothing.
 use Prim.Native.Nat.{ℕ}
-use mathlib.Core.Path.{◌≡◌, refl, sym, ap, ◌∙◌}
+use mathlib.Core.Path.{◌≡◌, refl, sym}
 use mathlib.Core.List.{List}
 use native.Mathlib.Omega.{arith}
 use Rattle.answer.specs.declared.refusal.Refusal as refusal
@@ -41,14 +41,6 @@ or_refused refusal.TheVariants.Length m = refl
 or_refused refusal.TheVariants.Check m = refl
 or_refused refusal.TheVariants.Protocol m = refl
 or_refused refusal.TheVariants.Parameter m = refl
-
--- what is tried first has the number n, and the whole w
-module _ (n m w : ℕ) (whole : w ≡ or_else n m) where
-  pub then_err : (r : Refusal) → refusal_no r ≡ n → refusal_no r ≡ w
-  then_err r e = sym (whole ∙ ap (λ (k : ℕ). or_else k m) (sym e) ∙ or_refused r m)
-
-  pub then_ok : 0 ≡ n → m ≡ w
-  then_ok e = sym (whole ∙ ap (λ (k : ℕ). or_else k m) (sym e))
 
 -- a call that is refused leaves table and output, and its number stands in the record
 pub err_leaves : (t out rec : List ℕ) (i : ℕ) (x : Input) (r : Refusal) → refusal_no r ≡ refusal_of t i x

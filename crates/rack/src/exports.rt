@@ -20,6 +20,7 @@ fn refused(rec: &mut [u8], refusal: Refusal) -> u64
 }
 
 // Open: a fresh table with these shares and ceilings.
+#[tactic(auto, using(call::proofs::OpenLaws::open_given, call::proofs::OpenLaws::open_refused, crate::proofs::RefusedLaws::refusal_some))]
 pub fn rack_open(table: &mut [u8], shares: &[u8; 8], ceilings: &[u8; 8], rec: &mut [u8]) -> u64
     ensures value { result ≡ (open_answer table.old shares.now ceilings.now rec.old).number }
     ensures table_after { table.new ≡ opened table.old shares.now ceilings.now rec.old }
@@ -53,6 +54,7 @@ pub fn rack_attach(table: &mut [u8], slot: u64, atr: &[u8], out: &mut [u8], rec:
 }
 
 // Command: its first I-block goes out.
+#[tactic(auto, using(crate::proofs::RefusedLaws::err_leaves, call::proofs::AnswerLaws::command_leaves))]
 pub fn rack_command(
     table: &mut [u8],
     slot: u64,

@@ -59,6 +59,7 @@ fn is_short(rec: usize, out: usize, need: usize) -> bool
 }
 
 // Attach needs empty, and then an ATR that is on our terms.
+#[tactic(auto, using(call::proofs::RefusalLaws::attach_tried, crate::proofs::RefusedLaws::or_refused))]
 pub(crate) fn attach(
     t: &[u8],
     slot: u64,
@@ -79,6 +80,7 @@ pub(crate) fn attach(
 }
 
 // Command needs ready, and a good form.
+#[tactic(auto, using(crate::proofs::TriedLaws::command_tried, crate::proofs::RefusedLaws::or_refused))]
 pub(crate) fn command(
     t: &[u8],
     slot: u64,
@@ -102,6 +104,7 @@ pub(crate) fn command(
 }
 
 // Event needs greeting or busy, and a kind of 0 to 2. Its bytes are not looked at here.
+#[tactic(auto, using(crate::proofs::TriedLaws::event_tried, crate::proofs::RefusedLaws::or_refused))]
 pub(crate) fn event(t: &[u8], slot: u64, kind: u64, out: usize, rec: usize) -> Result<(), Refusal>
     ensures { returned_no result ≡ refusal_of t.now slot (event (lends (length t.now) out rec) kind []) }
 {
@@ -110,6 +113,7 @@ pub(crate) fn event(t: &[u8], slot: u64, kind: u64, out: usize, rec: usize) -> R
 }
 
 // Collect needs done, and an output that holds the response.
+#[tactic(auto, using(crate::proofs::TriedLaws::collect_tried))]
 pub(crate) fn collect(t: &[u8], slot: u64, out: usize, rec: usize) -> Result<(), Refusal>
     ensures { returned_no result ≡ refusal_of t.now slot (collect (lends (length t.now) out rec)) }
 {
@@ -123,6 +127,7 @@ pub(crate) fn collect(t: &[u8], slot: u64, out: usize, rec: usize) -> Result<(),
 }
 
 // Remove needs anything but empty.
+#[tactic(auto, using(crate::proofs::TriedLaws::remove_tried))]
 pub(crate) fn remove(t: &[u8], slot: u64, rec: usize) -> Result<(), Refusal>
     ensures { returned_no result ≡ refusal_of t.now slot (remove (lends (length t.now) 0 rec)) }
 {
