@@ -1,7 +1,7 @@
 -- A part of the bytes added up item by item, as a fold over its places. Assumes nothing.
 use mathlib.Core.Path.{◌≡◌, refl, ap, ap₂, ◌∙◌}
 use mathlib.Core.List.{List}
-use Prim.Native.Nat.{ℕ, zero, suc, ◌+◌, ◌*◌, ◌≤◌, ◌<◌}
+use Prim.Native.Nat.{ℕ, zero, suc, ◌+◌, ◌≤◌}
 use native.Mathlib.Numerals.{add-one}
 use native.Mathlib.Omega.{arith}
 use lib.ListN.{length, get_or, take, drop}
@@ -18,9 +18,3 @@ module _ (h : ℕ → ℕ) (r : List ℕ) (a : ℕ) where
   sum_part zero l = refl
   sum_part (suc n) l =
       rw (← add-one n) (sum_by_more h (drop a r) n 0 (omega (arith, length-drop a r)) ∙ ap₂ ◌+◌ (sum_part n (omega arith)) (ap h (get_or-drop a r n 0)))
-
--- terms of at most m
-pub sum_bound : (f : ℕ → ℕ) (m n : ℕ) → ((k : ℕ) → k < n → f k ≤ m) → sum n f ≤ m * n
-unfolding sum
-sum_bound f m zero u = omega arith
-sum_bound f m (suc n) u = omega (arith, sum_bound f m n (λ k l. u k (omega arith)), u n (omega arith))
