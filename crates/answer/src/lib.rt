@@ -24,7 +24,7 @@ const REST: usize = 32;
 
 const REST_SIZE: usize = RECORD - REST;
 
-// A refusal: its number, and the other fields 0.
+// A refusal: its number, and the other fields 0. Any number is taken: with 0 it is what open answers.
 pub fn refuse(rec: &mut [u8], number: u8)
     ensures { rec.new ≡ told rec.old (refuses number) }
 {
