@@ -1,5 +1,5 @@
 // The calls that send: the block goes to the output, the slot into the table, the answer into the record. Any bytes and any
-// slot number are taken.
+// slot number are taken. Table, output and record are three parameters in each call, since C lends them apart.
 #![tactic(auto)]
 
 ghost use Rattle.std.specs.Prelude.{◌≡◌};

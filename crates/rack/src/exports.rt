@@ -76,7 +76,7 @@ pub fn rack_command(
     }
 }
 
-// Event: what the card sent (kind 0), a parity fault (1), or silence (2).
+// Event: what the card sent (kind 0), a parity fault (1), or silence (2). C gives the kind, so any number may come.
 pub fn rack_event(
     table: &mut [u8],
     slot: u64,
