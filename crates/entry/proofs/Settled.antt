@@ -1,7 +1,7 @@
 -- Each public function's promise settles its answer. Assumes nothing.
 use mathlib.Core.Path.{sym, ◌∙◌}
 use Rattle.lent.proofs.Settles.{Settles}
-use Rattle.entry.proofs.StateLaws.{names_one}
+use Rattle.entry.proofs.StateLaws.{names_one, state_one, decodes_one}
 use Rattle.entry.proofs.reading.line.Kinds as line-kinds
 use Rattle.entry.proofs.reading.line.Reads as line
 use Rattle.entry.proofs.reading.sent.Kinds as sent-kinds
@@ -16,6 +16,12 @@ use Rattle.entry.proofs.reading.is_formed.Kinds as is-formed-kinds
 use Rattle.entry.proofs.reading.is_formed.Reads as is-formed
 use Rattle.entry.proofs.writing.bytes.Kinds as bytes-kinds
 use Rattle.entry.proofs.writing.bytes.Reads as bytes
+use Rattle.entry.proofs.states.StateTryFromU8.try_from.Kinds as decoded-kinds
+use Rattle.entry.proofs.states.StateTryFromU8.try_from.Reads as decoded
+use Rattle.entry.proofs.states.U8FromState.from.Kinds as number-kinds
+use Rattle.entry.proofs.states.U8FromState.from.Reads as number
+use Rattle.entry.proofs.states.StateFromSlot.from.Kinds as of-slot-kinds
+use Rattle.entry.proofs.states.StateFromSlot.from.Reads as of-slot
 
 pub line-answer : Settles line-kinds.ps line-kinds.r line.Post (λ κs r s. r)
 line-answer κs a x y s t f g = f ∙ sym g
@@ -37,3 +43,12 @@ is_formed-answer κs a x y s t f g = f ∙ sym g
 
 pub bytes-answer : Settles bytes-kinds.ps bytes-kinds.r bytes.Post (λ κs r s. r)
 bytes-answer κs a x y s t f g = f ∙ sym g
+
+pub decoded_answer : Settles decoded-kinds.ps decoded-kinds.r decoded.Post (λ κs r s. r)
+decoded_answer κs a x y s t f g = decodes_one _ _ _ f g
+
+pub number_answer : Settles number-kinds.ps number-kinds.r number.Post (λ κs r s. r)
+number_answer κs a x y s t f g = f ∙ sym g
+
+pub of_slot_answer : Settles of-slot-kinds.ps of-slot-kinds.r of-slot.Post (λ κs r s. r)
+of_slot_answer κs a x y s t f g = state_one x y (f ∙ sym g)
