@@ -100,7 +100,7 @@ byte_same t a v h =
 -- ---- a part of n bytes as a number, and the library's bytes of a number
 
 -- as many bytes as were asked for are found at a only where they lie within
-pub part_long : (t : List ℕ) (a n : ℕ) (w : List ℕ) → w ≡ window t a n → n ≤ length w → 0 < n → a + n ≤ length t
+part_long : (t : List ℕ) (a n : ℕ) (w : List ℕ) → w ≡ window t a n → n ≤ length w → 0 < n → a + n ≤ length t
 unfolding window
 part_long t a n w e l h =
     let d : length (drop a t) ≡ length t - a = length-drop a t in
@@ -108,9 +108,9 @@ part_long t a n w e l h =
     grind (arith, d, f)
 
 -- n bytes that were found at a make the number there
-pub part_number : (t : List ℕ) (a n : ℕ) (w : List ℕ) → w ≡ window t a n → n ≤ length w → a + n ≤ length t
-    → number_at t a n ≡ weighed w 0 0 n
-part_number t a n w e l h =
+pub part_number : (t : List ℕ) (a n : ℕ) (w : List ℕ) → w ≡ window t a n → 0 < n → n ≤ length w → number_at t a n ≡ weighed w 0 0 n
+part_number t a n w e p l =
+    let h : a + n ≤ length t = part_long t a n w e l p in
     let f : length w ≡ n = ap length e ∙ length-window t a n h in
     let whole : window w 0 n ≡ w = ap (window w 0) (sym f) ∙ window_whole w in
     let front : number_at w 0 n ≡ weighed w 0 0 n = number_weighed w 0 0 n (omega arith) in
