@@ -43,15 +43,16 @@ impl Number for u8 {
     ghost laws = { byte_laws };
 
     fn get(t: &[u8], a: usize) -> u8 {
-        if t.len() <= a { 0 } else { t[a] }
+        t.get(a).copied().unwrap_or(0)
     }
 
+    #[tactic(auto, using(lent::proofs::PlaceLaws::splice_one, lent::proofs::PlaceLaws::splice_out))]
     fn put(self, t: &mut [u8], a: usize) -> bool {
-        if a < t.len() {
+        let fits = a < t.len();
+        if fits {
             t[a] = self;
-            return true;
         }
-        false
+        fits
     }
 }
 
