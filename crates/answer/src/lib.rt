@@ -24,7 +24,7 @@ const REST: usize = 32;
 
 const REST_SIZE: usize = RECORD - REST;
 
-// A refusal: its number, and the other fields 0. Any number is taken, since `told` speaks of each; 0 is open's own answer.
+// A refusal: its number, and the other fields 0. Any number is taken, since `refuses` speaks of each; 0 is open's own answer.
 pub fn refuse(rec: &mut [u8], number: u8)
     ensures { rec.new ≡ told rec.old (refuses number) }
 {

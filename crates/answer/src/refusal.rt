@@ -7,38 +7,25 @@ ghost use Rattle.answer.specs.Refusal.{refusal_no};
 // few bytes lent, the kind of event, the form of a command; then what the ATR reader refuses.
 #[derive(Clone, Copy, Debug, PartialEq, Eq)]
 pub enum Refusal {
-    Table,
-    Limits,
-    Slot,
-    State,
-    Lent,
-    Kind,
-    Form,
-    Start,
-    Length,
-    Check,
-    Protocol,
-    Parameter,
+    Table = 1,
+    Limits = 2,
+    Slot = 3,
+    State = 4,
+    Lent = 5,
+    Kind = 6,
+    Form = 7,
+    Start = 8,
+    Length = 9,
+    Check = 10,
+    Protocol = 11,
+    Parameter = 12,
 }
 
 impl From<Refusal> for u8 {
     ghost from_gives = { λ refusal number. number ≡ refusal_no refusal };
 
     fn from(refusal: Refusal) -> u8 {
-        match refusal {
-            Refusal::Table => 1,
-            Refusal::Limits => 2,
-            Refusal::Slot => 3,
-            Refusal::State => 4,
-            Refusal::Lent => 5,
-            Refusal::Kind => 6,
-            Refusal::Form => 7,
-            Refusal::Start => 8,
-            Refusal::Length => 9,
-            Refusal::Check => 10,
-            Refusal::Protocol => 11,
-            Refusal::Parameter => 12,
-        }
+        refusal as u8
     }
 }
 

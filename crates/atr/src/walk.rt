@@ -12,7 +12,7 @@ pub(crate) fn byte(field: u16) -> Option<u8>
     u8::try_from(field).ok()
 }
 
-// TAi, TBi, TCi and TDi, each a byte or ABSENT.
+// TAi, TBi, TCi and TDi, each a byte or ABSENT, as `field_at` of specs/Walk says.
 #[derive(Clone, Copy)]
 pub struct Group {
     pub ta: u16,

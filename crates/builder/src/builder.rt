@@ -6,7 +6,7 @@ use super::check::put_check;
 use block::{FRAME, INF_AT};
 
 // Writes a block at the front of out and answers its length; the rest stays. Where INF is over 254 bytes or out is
-// too short, nothing is written and the answer is 0.
+// too short, nothing is written and the answer is 0, as `built_length` says.
 #[tactic(auto, unfolding(block::specs::Builder::built_length, block::specs::Builder::built_out), using(block::proofs::BuilderLaws::written))]
 pub fn build(out: &mut [u8], pcb: u8, inf: &[u8]) -> usize
     ensures value { result ≡ built_length out.old inf.now }

@@ -39,6 +39,7 @@ fn cut(w: &[u8]) -> Cut
     }
 }
 
+// The last block, by its sort: 0, 1, and any other number an S, as `last_in` reads them; so a sort is no enum.
 #[tactic(auto, unfolding(crate::specs::Entry::last_in))]
 fn last(w: &[u8]) -> Last
     ensures { result ≡ last_in w.now }

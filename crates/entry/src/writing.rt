@@ -8,7 +8,7 @@ use super::layout;
 use super::states::State;
 use slot::{Last, Line, Slot, Talk};
 
-// The low two bytes of a number, high byte first.
+// The low two bytes of a number, high byte first. A u32 is cast by `as`, since usize has no From<u32>.
 fn two(v: usize) -> [u8; 2]
     ensures { result ≡ bytes_of 2 v }
 {

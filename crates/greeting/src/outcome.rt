@@ -17,7 +17,7 @@ pub fn rest(slot: Slot, sent: u32) -> Next
     }
 }
 
-// Why a session ended, by the number that its answer gives.
+// Why a session ended, by the number that its answer gives: `as u8` tells it, with no function of its own.
 #[derive(Clone, Copy, Debug, PartialEq, Eq)]
 pub enum Ending {
     NoCell = 20,

@@ -1,17 +1,12 @@
 -- What an event leaves on a slot that is greeting or busy. A table of fewer than 32,768 bytes, with it the output and the
 -- record, is left as it was.
 use Rattle.std.specs.Prelude.{ℕ, cond, List, leb, length}
-use Rattle.atr.specs.Answer.{zeros}
 use Rattle.slot.specs.declared.parts.Next.{Next}
-use Rattle.slot.specs.Blocks.{sent_length, sent_out}
+use Rattle.slot.specs.Blocks.{sent_out}
 use Rattle.session.specs.Call.{Input, event}
-use Rattle.answer.specs.Record.{told_of}
 use Rattle.table.specs.Layout.{table_size, command_in, with_pool, with_slot}
 use Rattle.call.specs.Call.{lends, next_of, pool_after}
-
--- the record of a call that sends, the block being cut from this command
-abbrev pub told_by : (rec out : List ℕ) → Next → (command : List ℕ) → List ℕ
-told_by rec out n command = told_of rec n (sent_length out n.send command) zeros
+use Rattle.hearing.specs.Parts.{told_by}
 
 -- the call; what is lent does not matter
 abbrev pub happening : (kind : ℕ) → List ℕ → Input

@@ -46,13 +46,8 @@ impl Number for u8 {
         t.get(a).copied().unwrap_or(0)
     }
 
-    #[tactic(auto, using(lent::proofs::PlaceLaws::splice_one, lent::proofs::PlaceLaws::splice_out))]
     fn put(self, t: &mut [u8], a: usize) -> bool {
-        let fits = a < t.len();
-        if fits {
-            t[a] = self;
-        }
-        fits
+        lent::put(t, a, &[self])
     }
 }
 
@@ -104,7 +99,7 @@ impl Number for u32 {
     }
 }
 
-// A byte as a wider number.
+// A byte as a wider number, as From gives it too; it stays for its promise.
 pub fn wide(x: u8) -> usize
     ensures { (result ≡ x) × (result < 256) }
 {

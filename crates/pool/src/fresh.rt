@@ -6,7 +6,7 @@ use region::layout::{CEILINGS, CELLS, HELD, HOLDERS, OWNERS, PLACES, SHARES, SIZ
 
 // Lays out a pool with these shares and ceilings: nothing is held, and nobody owns a cell. Answers whether it did; where
 // r is too short or the limits do not pass, r stays. Every byte of the region is written, so that nothing of an earlier
-// pool remains.
+// pool remains. Shares and ceilings go side by side, as `lays_out` and C take them.
 #[tactic(auto, unfolding(crate::specs::Calls::lays_out, crate::specs::Calls::laid_out))]
 pub fn lay_out(r: &mut [u8], shares: &[u8; 8], ceilings: &[u8; 8]) -> bool
     ensures value { result ≡ lays_out r.old shares.now ceilings.now }

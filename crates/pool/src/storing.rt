@@ -15,7 +15,7 @@ fn lowest_free(r: &[u8]) -> Option<usize>
         .position(|&owner| owner == UNOWNED)
 }
 
-// Makes cell c holder i's last piece, with the bytes xs.
+// Makes cell c holder i's last piece, with the bytes xs. Each `as u8` is of a number that the clause bounds below 256.
 #[tactic(auto, unfolding(crate::specs::Calls::stored))]
 fn store(r: &mut [u8], i: usize, c: usize, xs: &[u8])
     requires { (size ≤ length r.old) × (i < holders) × (c < cells) × (length xs.now ≤ cell_size) × (held r.old i < 255) }

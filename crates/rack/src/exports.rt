@@ -1,4 +1,5 @@
-// The six calls. C makes them through the crate `rack_c`, which exports them under the same names and promises.
+// The six calls. C makes them through the crate `rack_c`, which exports them under the same names and promises. A slot number
+// is cast by `as`, since usize has no From<u64>.
 ghost use Rattle.std.specs.Prelude.{◌≡◌};
 ghost use Rattle.lent.specs.Place.{splice};
 ghost use Rattle.session.specs.Call.{refuses};

@@ -1,4 +1,5 @@
-// Refusals of the calls on a slot: the lowest number that applies.
+// Refusals of the calls on a slot: the lowest number that applies. Of output and record the tests know the lengths alone, as
+// `lends` does: no buffer is read or written here. A slot number is cast by `as`, since usize has no From<u64>.
 ghost use Rattle.std.specs.Prelude.{◌≡◌, not, ◌||◌, [], ◌∷◌, eqb, ltb, length, IfOk};
 ghost use Rattle.atr.specs.Answer.{answer_of, report_in};
 ghost use Rattle.session.specs.Call.{attach, command, event, collect, remove};

@@ -24,7 +24,7 @@ impl Region<'_> {
         total(&self.bytes[HELD..HELD + HOLDERS])
     }
 
-    // The cells less all that is held.
+    // The cells less all that is held: 96 at most, so `as u8` loses nothing.
     fn free(&self) -> u8
         ensures { result ≡ pool.free (layout.pool_in self.now) (layout.held self.now) }
     {
@@ -72,10 +72,7 @@ pub fn held(r: &[u8], i: usize) -> u8
 pub fn free(r: &[u8]) -> u8
     ensures { result ≡ free_cells r.now }
 {
-    match Region::of(r) {
-        Some(region) => region.free(),
-        None => 0,
-    }
+    Region::of(r).map_or(0, |region| region.free())
 }
 
 // Whether holder i gets a cell if it asks now.
@@ -83,8 +80,5 @@ pub fn free(r: &[u8]) -> u8
 pub fn granted(r: &[u8], i: usize) -> bool
     ensures { result ≡ holding.granted r.now i }
 {
-    match Region::of(r) {
-        Some(region) => i < HOLDERS && region.grants(i),
-        None => false,
-    }
+    Region::of(r).is_some_and(|region| i < HOLDERS && region.grants(i))
 }

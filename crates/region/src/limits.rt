@@ -14,7 +14,7 @@ fn in_order(share: u8, ceiling: u8) -> bool
 }
 
 // Whether a pool opens with these shares and ceilings: so for all holders, and the shares add to no more than the cells.
-// A share or a ceiling that is not there counts as 0.
+// A share or a ceiling that is not there counts as 0. A loop and no chain, since it tests and adds in one walk.
 pub fn acceptable(shares: &[u8], ceilings: &[u8]) -> bool
     ensures { result ≡ fit (pool_of shares.now ceilings.now) }
 {

@@ -1,4 +1,4 @@
-// The answer to reset, read: from an ATR's bytes to a refusal by its number or to what attach reports.
+// The answer to reset, read: from an ATR's bytes to why it is refused, or to what attach reports.
 #![tactic(auto)]
 
 mod reading;

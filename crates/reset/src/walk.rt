@@ -1,11 +1,12 @@
 // The walk over an ATR's bytes: the groups that T0 and each TDi announce, what is read of them, and where they end.
 ghost use Rattle.std.specs.Prelude.{◌≡◌, ◌+◌, ◌≤◌, length};
-ghost use Rattle.atr.specs.Walk.{t0, announced, field_at, walk_from, walk_of, behind, interface_of, end_of};
+ghost use Rattle.atr.specs.Walk.{t0, announced, field_at, walk_from, behind, interface_of, end_of};
 
 use atr::walk::{ABSENT, End, Group, Interface};
 use numbers::Number;
 
-// The byte at p, if the bit that announces it is 1 and the bytes reach that far.
+// The byte at p, if the bit that announces it is 1 and the bytes reach that far; else ABSENT and no None, since `field_at`
+// says 256.
 #[tactic(auto, unfolding(atr::specs::Walk::field_at))]
 fn field(s: &[u8], p: usize, bit: usize) -> u16
     ensures value { result ≡ field_at s.now p bit }

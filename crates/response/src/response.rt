@@ -85,10 +85,7 @@ impl<'a> Pieces<'a> {
 pub fn response_length(r: &[u8], i: usize) -> usize
     ensures { result ≡ length (response r.now i) }
 {
-    match Pieces::of(r, i) {
-        Some(pieces) => pieces.length(),
-        None => 0,
-    }
+    Pieces::of(r, i).map_or(0, |pieces| pieces.length())
 }
 
 // Copies holder i's response to the front of out and answers true; where out is shorter, it stays and the answer is false.
@@ -100,9 +97,9 @@ pub fn copy_out(r: &[u8], i: usize, out: &mut [u8]) -> bool
     let Some(pieces) = Pieces::of(r, i) else {
         return true;
     };
-    if out.len() < pieces.length() {
-        return false;
+    let fits = pieces.length() <= out.len();
+    if fits {
+        pieces.join_into(out);
     }
-    pieces.join_into(out);
-    true
+    fits
 }

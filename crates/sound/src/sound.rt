@@ -1,9 +1,9 @@
 // Whether a region is sound. The numbers are tested before the lists, so that the lists name 96 cells at most in all.
-ghost use Rattle.std.specs.Prelude.{◌≡◌, ◌&&◌, ◌≤◌, ◌<◌, eqb, length, count_by};
-ghost use Rattle.lent.specs.Fold.{all, sum};
+ghost use Rattle.std.specs.Prelude.{◌≡◌, ◌≤◌, ◌<◌, eqb, length, count_by};
+ghost use Rattle.lent.specs.Fold.{all};
 ghost use Rattle.shares.specs.Pool as pool;
 ghost use Rattle.region.specs.Layout.{holders, cells, unowned, held, pool_in};
-ghost use Rattle.region.specs.Sound.{free_at, piece_size, is_piece, listed_well, list_well, counted, sound_in};
+ghost use Rattle.region.specs.Sound.{is_piece, listed_well, list_well, counted, sound_in};
 ghost use Rattle.region.specs.Sound as rules;
 
 use region::Region;
@@ -47,6 +47,7 @@ fn are_lists(r: &Region<'_>) -> bool
 }
 
 // Whether no holder is over its ceiling, no more is held than there is, and the free cells are at least what all holders lack.
+// A loop and no chain, since it tests and adds in one walk.
 fn are_holdings(r: &Region<'_>) -> bool
     ensures { result ≡ pool.sound (pool_in r.now) (held r.now) }
 {
@@ -102,8 +103,5 @@ fn is_sound_in(r: &Region<'_>) -> bool
 pub fn is_sound(r: &[u8]) -> bool
     ensures { result ≡ rules.sound r.now }
 {
-    match Region::of(r) {
-        Some(region) => is_sound_in(&region),
-        None => false,
-    }
+    Region::of(r).is_some_and(|region| is_sound_in(&region))
 }

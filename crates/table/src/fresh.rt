@@ -8,7 +8,8 @@ ghost use Rattle.table.specs.Fresh.{fresh, lays_out, laid_out};
 
 use super::layout;
 
-// Writes every byte of the table, so that nothing of an earlier one remains.
+// Writes every byte of the table, so that nothing of an earlier one remains. Shares and ceilings go side by side, as C lends
+// them.
 fn write_all(t: &mut [u8], shares: &[u8; 8], ceilings: &[u8; 8])
     requires long { table_size ≤ length t.old }
     requires fits { fit (pool_of shares.now ceilings.now) ≡ true }

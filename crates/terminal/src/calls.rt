@@ -1,4 +1,5 @@
-// The calls on slot i, whose cells are in the region r of the pool.
+// The calls on slot i, whose cells are in the region r of the pool. They go side by side: the public calls take them so, and a
+// struct of both would be built for one line in each.
 ghost use Rattle.std.specs.Prelude.{◌≡◌};
 ghost use Rattle.pool.specs.Calls.{appended, released, copied};
 ghost use Rattle.greeting.specs.Sending.{rests};

@@ -9,7 +9,7 @@ use greeting::Ending;
 use slot::{Last, Line, Next, Send, Talk, Turn};
 
 impl SafeTalk {
-    // An R-block: its number asks for the standing block again, or for the next I-block.
+    // An R-block, by its number alone: the standing block again, or the next I-block; any other is invalid.
     #[tactic(auto, unfolding(crate::specs::Rows::on_r))]
     fn on_r(self, number: u8) -> Next
         ensures { result ≡ on_r self.talk number }

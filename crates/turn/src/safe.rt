@@ -1,5 +1,5 @@
-// A talk whose numbers are in range, so that nothing overflows. It is built where the ranges were tested, and anew by each
-// step that goes on from another. `taking` has a like one: a type's methods stand in the type's own crate.
+// A talk whose numbers let nothing overflow. It is built where the ranges were tested, from a command that was not sent yet, and
+// anew by each step that goes on from another. `taking` has a like one: a type's methods stand in the type's own crate.
 ghost use Rattle.slot.specs.Safe.{Numbers, Within, Nibble};
 
 use slot::Talk;

@@ -8,7 +8,7 @@ use greeting::Ending;
 use slot::{Last, Next, Send, Slot, Talk, Turn};
 
 // The low nibble of an R-block: what it tells of the block before it. `Last::R` keeps it as the number that is sent, which
-// `last_fits` reads, so it is no enum.
+// `last_fits`, `in_place` and `invalid` read, so it is no enum.
 pub(crate) const NO_FAULT: u8 = 0;
 
 pub(crate) const EDC_FAULT: u8 = 1;

@@ -128,7 +128,7 @@ fn scatter(s: &mut [u8], x: u16) {
     let mut x = x;
     for b in s.iter_mut() {
         x = after(x);
-        *b = (x / 256) as u8;
+        *b = x.to_be_bytes()[0];
     }
 }
 

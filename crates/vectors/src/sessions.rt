@@ -1,4 +1,4 @@
-// The calls on slot 0, whose cells are in a pool's region. What a call is refused for is told here, as the rack will.
+// The calls on slot 0, whose cells are in a pool's region. What a call is refused for is told here, as the rack tells it.
 use answer::Refusal;
 use entry::State;
 use slot::{Line, Next, Send, Slot};
@@ -139,7 +139,7 @@ impl Seat {
         self.still()
     }
 
-    // The number of a refusal or 0, what comes next, and what then is held, free and sound.
+    // The number of a refusal or 0, what comes next, and what then is held, free and sound. usize has no From<u32>.
     pub(crate) fn numbers(&self, refusal: u8, next: Next, length: usize) -> [usize; 9] {
         [
             usize::from(refusal),

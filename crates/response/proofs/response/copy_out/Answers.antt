@@ -15,9 +15,9 @@ returns-in_default-clause-out_after c =
     let a = c.args in
     sym (ap (splice a.out.now 0) (response_out a.r.now a.i (c.in_default.ensures)) ∙ splice_none a.out.now 0)
 
-pub returns-then-out-length-clause-out_after : goal.returns-then-out-length-clause-out_after
+pub returns-else-fits-clause-out_after : goal.returns-else-fits-clause-out_after
 unfolding copied
-returns-then-out-length-clause-out_after c =
+returns-else-fits-clause-out_after c =
     let a = c.args in
     let p = c.in-Some.pieces in
     let w = c.in-Some.ensures in
