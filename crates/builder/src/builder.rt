@@ -16,6 +16,7 @@ pub fn build(out: &mut [u8], pcb: u8, inf: &[u8]) -> usize
     if n > 254 || out.len() < FRAME + n {
         return 0;
     }
+    // n is at most 254, so `as u8` loses nothing
     lent::put(out, 0, &[0x00, pcb, n as u8]);
     lent::put(out, INF_AT, inf);
     put_check(out, INF_AT + n);

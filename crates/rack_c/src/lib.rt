@@ -1,5 +1,5 @@
 // The six calls as C makes them: `rack`'s, under their own names in the archive. A slice is a pointer and a length, a
-// `&[u8; 8]` a pointer (include/rack.h).
+// `&[u8; 8]` a pointer (include/rack.h). A static library exports its own functions alone, so each stands here once more.
 #![tactic(auto)]
 
 ghost use Rattle.std.specs.Prelude.{◌≡◌};

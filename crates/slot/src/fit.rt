@@ -71,7 +71,7 @@ fn are_steps_fit(t: Talk, held: u8) -> bool
 fn is_talk_fit(t: Talk, held: u8) -> bool
     ensures { result ≡ talk_fits t held }
 {
-    is_in_range(t) && !(t.acked && t.cut.from + t.cut.len < t.cut.whole) && are_steps_fit(t, held)
+    is_in_range(t) && !(t.acked && t.cut.has_more()) && are_steps_fit(t, held)
 }
 
 // Whether a slot that holds so many cells fits.

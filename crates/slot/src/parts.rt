@@ -1,5 +1,8 @@
 // The parts of a slot, and what a call gives.
 
+ghost use Rattle.std.specs.Prelude.{◌≡◌};
+ghost use Rattle.slot.specs.Blocks.{is_more};
+
 // What runs on through later commands until remove: IFSC, BWT, s the number of the last I-block sent, r the number
 // expected from the card.
 #[derive(Clone, Copy, Debug, PartialEq, Eq)]
@@ -17,6 +20,15 @@ pub struct Cut {
     pub whole: usize,
     pub from: usize,
     pub len: usize,
+}
+
+impl Cut {
+    // Whether more of the command is left after the last I-block.
+    pub fn has_more(self) -> bool
+        ensures { result ≡ is_more self }
+    {
+        self.len < self.whole.saturating_sub(self.from)
+    }
 }
 
 // The last block sent: the last I-block, R(r) with this low nibble, or the answer to a request.

@@ -13,7 +13,7 @@ impl SafeTalk {
         ensures { result ≡ due self.talk number }
     {
         let t = self.talk;
-        number == t.line.r && (t.acked || t.cut.from + t.cut.len >= t.cut.whole)
+        number == t.line.r && (t.acked || !t.cut.has_more())
     }
 
     // An I-block was taken: r flipped.

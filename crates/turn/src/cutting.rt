@@ -1,6 +1,5 @@
 // The command's I-blocks: where the last was cut, and where the next will be.
 ghost use Rattle.std.specs.Prelude.{◌≡◌};
-ghost use Rattle.slot.specs.Blocks.{is_more};
 ghost use Rattle.turn.specs.Sending.{last_i, cut_next, send_next, say_again};
 
 use crate::safe::SafeTalk;
@@ -8,20 +7,12 @@ use crate::sending::NO_FAULT;
 use slot::{Cut, Last, Line, Next, Send, Talk};
 
 impl SafeTalk {
-    // Whether more of the command is left after the last I-block.
-    pub(crate) fn has_more(self) -> bool
-        ensures { result ≡ is_more self.talk.cut }
-    {
-        let cut = self.talk.cut;
-        cut.from + cut.len < cut.whole
-    }
-
     // The last I-block, as it was cut.
     fn last_i(self) -> Send
         ensures { result ≡ last_i self.talk }
     {
         let Talk { line, cut, .. } = self.talk;
-        let more = if self.has_more() { 0x20 } else { 0 };
+        let more = if cut.has_more() { 0x20 } else { 0 };
         Send::I {
             pcb: 0x40 * line.s + more,
             from: cut.from,

@@ -14,11 +14,16 @@ impl SafeTalk {
     fn on_r(self, number: u8) -> Next
         ensures { result ≡ on_r self.talk number }
     {
-        let Talk { line, acked, .. } = self.talk;
+        let Talk {
+            line,
+            cut,
+            acked,
+            ..
+        } = self.talk;
         let standing = if acked { 1 - line.s } else { line.s };
         if number == standing {
             self.say_again()
-        } else if !acked && self.has_more() {
+        } else if !acked && cut.has_more() {
             self.send_next()
         } else {
             self.answer_invalid(OTHER_FAULT)
