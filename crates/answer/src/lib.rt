@@ -4,6 +4,7 @@
 
 ghost use Rattle.std.specs.Prelude.{◌≡◌};
 ghost use Rattle.session.specs.Call.{refuses};
+ghost use Rattle.entry.specs.State.{state_number};
 ghost use Rattle.answer.specs.Record.{front_bytes, report_bytes, told, told_of};
 
 mod refusal;
@@ -33,12 +34,12 @@ pub fn refuse(rec: &mut [u8], number: u8)
     lent::put(rec, FRONT, &record);
 }
 
-// Number 0, state, ending, blocks sent, length written, wait.
-fn front(state: u8, ending: u8, sent: u32, written: usize, wait: u32) -> [u8; 16]
-    ensures { result ≡ front_bytes 0 state ending sent written wait }
+// Number 0, state, ending, blocks sent, length written, wait. The ending is a number, since `front_bytes` speaks of each.
+fn front(state: State, ending: u8, sent: u32, written: usize, wait: u32) -> [u8; 16]
+    ensures { result ≡ front_bytes 0 (state_number state) ending sent written wait }
 {
     let mut front = [0u8; 16];
-    front[1] = state;
+    front[1] = u8::from(state);
     front[2] = ending;
     front[4..8].copy_from_slice(&sent.to_be_bytes());
     front[8..12].copy_from_slice(&written.to_be_bytes()[4..]);
@@ -69,8 +70,7 @@ pub fn tell(rec: &mut [u8], n: Next, written: usize, r: Report)
     if rec.len() < RECORD {
         return;
     }
-    let state = u8::from(State::from(n.slot));
-    let front = front(state, n.ending, n.sent, written, n.wait);
+    let front = front(State::from(n.slot), n.ending, n.sent, written, n.wait);
     lent::put(rec, FRONT, &front);
     lent::put(rec, REPORT, &report(r));
     lent::fill(rec, REST, REST_SIZE, 0);

@@ -4,7 +4,8 @@ ghost use Rattle.atr.specs.Answer.{refusal_number};
 ghost use Rattle.answer.specs.Refusal.{refusal_no};
 
 // By the number that C is given, 1 to 12: the table isn't sound, the shares or ceilings, no such slot, the slot's state, too
-// few bytes lent, the kind of event, the form of a command; then what the ATR reader refuses.
+// few bytes lent, the kind of event, the form of a command; then what the ATR reader refuses, named here again so that the
+// numbers are one list.
 #[derive(Clone, Copy, Debug, PartialEq, Eq)]
 pub enum Refusal {
     Table = 1,

@@ -39,7 +39,7 @@ fn named(pcb: u8, v: u8) -> Event
     }
 }
 
-// Whether LEN and INF are as that block asks.
+// Whether LEN and INF are as that block asks. A match: each kind asks something else.
 fn in_range(e: Event, inf: &[u8]) -> bool
     ensures { result ≡ in_range e inf.now }
 {

@@ -8,7 +8,8 @@ use super::layout;
 use super::states::State;
 use slot::{Last, Line, Slot, Talk};
 
-// The low two bytes of a number, high byte first. A u32 is cast by `as`, since usize has no From<u32>.
+// The low two bytes of a number, high byte first. A u32 is cast by `as`, since usize has no From<u32>, and what is below 65536
+// by the remainder loses nothing.
 fn two(v: usize) -> [u8; 2]
     ensures { result ≡ bytes_of 2 v }
 {
@@ -37,7 +38,7 @@ fn plain(state: State, l: Line, sent: u32) -> [u8; layout::SIZE]
     b
 }
 
-// The sort of the last block sent, its value and its byte.
+// The sort of the last block sent, its value and its byte. The sort is a byte of the entry: 0, 1 or 2.
 #[tactic(auto, unfolding(crate::specs::Entry::last_bytes))]
 fn last(l: Last) -> [u8; 3]
     ensures { result ≡ last_bytes l }
@@ -49,7 +50,7 @@ fn last(l: Last) -> [u8; 3]
     }
 }
 
-// The bytes of a command under way.
+// The bytes of a command under way. What is below 256 by the remainder loses nothing as a byte.
 fn talking(t: Talk) -> [u8; layout::SIZE]
     ensures { result ≡ talk_bytes t }
 {

@@ -1,4 +1,5 @@
-// An event on a slot that is greeting or busy: the pool's region, the entry, the block that goes out, the record.
+// An event on a slot that is greeting or busy: the pool's region, the entry, the block that goes out, the record. Table, output
+// and record stand apart, as C lends them.
 #![tactic(auto)]
 
 ghost use Rattle.std.specs.Prelude.{◌≡◌, ◌≤◌, eqb, length};

@@ -1,4 +1,5 @@
-// The calls that send nothing: collect and remove. They free the slot's cells and write its entry and the record.
+// The calls that send nothing: collect and remove. They free the slot's cells and write its entry and the record. Table, output
+// and record stand apart, as C lends them.
 #![tactic(auto)]
 
 ghost use Rattle.std.specs.Prelude.{◌≡◌};

@@ -5,7 +5,7 @@ ghost use Rattle.pool.specs.Calls.{lowest, stored, appends, appended};
 
 use region::layout::{CELL, CELLS, CELLS_AT, HELD, LENGTHS, LISTS, OWNERS, PLACES, UNOWNED};
 
-// The lowest cell that nobody owns.
+// The lowest cell that nobody owns. Where a cell was granted the region is whole, so it isn't tested again.
 fn lowest_free(r: &[u8]) -> Option<usize>
     requires { size ≤ length r.now }
     ensures { MatchOption result (lowest r.now ≡ cells) (λ c. (c ≡ lowest r.now) × (c < cells)) }
@@ -15,7 +15,8 @@ fn lowest_free(r: &[u8]) -> Option<usize>
         .position(|&owner| owner == UNOWNED)
 }
 
-// Makes cell c holder i's last piece, with the bytes xs. Each `as u8` is of a number that the clause bounds below 256.
+// Makes cell c holder i's last piece, with the bytes xs. It takes the region's bytes and asks for their length: no type
+// carries a fact beside a `&mut`. Each `as u8` is of a number that the clause bounds below 256.
 #[tactic(auto, unfolding(crate::specs::Calls::stored))]
 fn store(r: &mut [u8], i: usize, c: usize, xs: &[u8])
     requires { (size ≤ length r.old) × (i < holders) × (c < cells) × (length xs.now ≤ cell_size) × (held r.old i < 255) }

@@ -104,7 +104,8 @@ pub(crate) fn command(
     }
 }
 
-// Event needs greeting or busy, and a kind of 0 to 2. Its bytes are not looked at here.
+// Event needs greeting or busy, and a kind of 0 to 2: C's number, since every one above 2 is refused with 6. Its bytes are not
+// looked at here.
 #[tactic(auto, using(crate::proofs::TriedLaws::event_tried, crate::proofs::RefusedLaws::or_refused))]
 pub(crate) fn event(t: &[u8], slot: u64, kind: u64, out: usize, rec: usize) -> Result<(), Refusal>
     ensures { returned_no result ≡ refusal_of t.now slot (event (lends (length t.now) out rec) kind []) }

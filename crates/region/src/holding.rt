@@ -44,7 +44,7 @@ impl Region<'_> {
         total
     }
 
-    // Whether the rule grants holder i a cell.
+    // Whether the rule grants holder i a cell; that i is a holder's was tested by `granted`, which alone asks.
     fn grants(&self, i: usize) -> bool
         requires { i < layout.holders }
         ensures { result ≡ rule_grants self.now i }

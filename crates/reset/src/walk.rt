@@ -86,7 +86,7 @@ pub(crate) fn interface_bytes(s: &[u8]) -> Interface
     }
 }
 
-// Walks group by group to the end: each TD that is there moves on by a byte at least.
+// Walks group by group to the end: each TD that is there moves on by a byte at least. A `while`, since no index is counted.
 pub(crate) fn to_end(s: &[u8]) -> End
     requires { length s.now ≤ 1000 }
     ensures value { result ≡ end_of s.now }

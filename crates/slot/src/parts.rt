@@ -31,7 +31,8 @@ impl Cut {
     }
 }
 
-// The last block sent: the last I-block, R(r) with this low nibble, or the answer to a request.
+// The last block sent: the last I-block, R(r) with this low nibble, or the answer to a request. The nibble is the number that
+// is sent, which `last_fits` reads.
 #[derive(Clone, Copy, Debug, PartialEq, Eq)]
 pub enum Last {
     I,

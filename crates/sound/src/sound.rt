@@ -21,7 +21,8 @@ fn is_piece(r: &Region<'_>, i: usize, k: u8, c: usize) -> bool
         && region::is_piece_size(usize::from(r.bytes[LENGTHS + c]))
 }
 
-// Whether the k-th cell of holder i's list is its piece k.
+// Whether the k-th cell of holder i's list is its piece k. That i is a holder's is asked, here and below: `are_lists` counts no
+// further, and a type of a holder's number would serve these two alone.
 #[tactic(auto, unfolding(region::specs::Sound::listed_well))]
 fn is_listed(r: &Region<'_>, i: usize, k: u8) -> bool
     requires { i < holders }

@@ -27,7 +27,7 @@ fn store(r: &mut [u8], i: usize, t: Talk, e: Event, inf: &[u8]) -> Next
     taking::take(t, e, stored, response::response_length(r, i))
 }
 
-// An ending frees the cells at once.
+// An ending frees the cells at once. It is `Next`'s number, 0 for none.
 #[tactic(auto, unfolding(crate::specs::Calls::settled_pool))]
 fn settle(r: &mut [u8], i: usize, ending: u8)
     ensures { r.new ≡ settled_pool r.old i ending }

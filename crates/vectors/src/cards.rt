@@ -21,7 +21,7 @@ pub(crate) fn paper(rt: &impl Print) -> io::Result<()> {
     card(rt, b"\x3C")
 }
 
-// Each ATR of a list, the last cut off where the list ends.
+// Each ATR of a list, the last cut off where the list ends. A `while`: what is left shrinks by what each is long.
 pub(crate) fn listed(rt: &impl Print, list: &[u8]) -> io::Result<()> {
     println!(rt; "the list")?;
     let mut rest = list;

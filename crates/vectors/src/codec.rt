@@ -10,7 +10,7 @@ fn sends(rt: &impl Print, pcb: u8, inf: &[u8]) -> io::Result<()> {
     println!(rt; "sends{}", Hex(lent::part(&out, 0, n)))
 }
 
-// What an event is read as, and its INF.
+// What an event is read as, and its INF. The kind is a number, since `block::read` takes any.
 fn receives(rt: &impl Print, kind: u64, s: &[u8]) -> io::Result<()> {
     let e = block::read(kind, s);
     println!(rt; "receives{}: {}", Hex(block::inf(e, s)), Heard(e))

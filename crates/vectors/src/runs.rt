@@ -12,7 +12,7 @@ fn after(x: u16) -> u16 {
     x.wrapping_mul(1103).wrapping_add(12345)
 }
 
-// Releases or appends for holder i, by the number x: whether a piece was taken.
+// Releases or appends for holder i, by six bits of the number x: whether a piece was taken.
 fn takes(r: &mut [u8], i: usize, x: u16) -> bool {
     if x / 256 % 64 == 0 {
         pool::release(r, i);

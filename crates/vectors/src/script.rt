@@ -151,7 +151,8 @@ pub(crate) fn played(rt: &impl Print, script: &[u8]) -> io::Result<()> {
     println!(rt; "sessions")?;
     let mut player = Player::new();
     let mut rest = script;
-    // The last line may end before its four bytes do: what is missing of them is 0.
+    // The last line may end before its four bytes do: what is missing of them is 0. A first byte of 0 names a run, and is no op:
+    // 128 is a call with no name.
     while !rest.is_empty() {
         let code = u8::get(rest, 0);
         let n = usize::from(u16::get(rest, 2));

@@ -69,7 +69,7 @@ impl Seat {
         }
     }
 
-    // The state comes before the kind, of which there are three.
+    // The state comes before the kind, of which there are three; it is a number, since `terminal::event` takes any.
     pub(crate) fn event(&mut self, kind: u8, bytes: &[u8]) -> Result<Step, Refusal> {
         let next = match self.slot {
             Slot::Greeting { .. } | Slot::Busy { .. } if kind > 2 => return Err(Refusal::Kind),

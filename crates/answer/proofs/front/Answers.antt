@@ -14,4 +14,4 @@ returns c =
     let sent = c.copy_from_slice.ensures.after ∙ c.to_be_bytes.ensures in
     let written = c.copy_from_slice-2.ensures.after ∙ ap (λ (b : List ℕ). take 4 (drop 4 b)) c.to_be_bytes-2.ensures in
     let wait = c.copy_from_slice-3.ensures.after ∙ c.to_be_bytes-3.ensures in
-    rw (sent, written, wait, div-one a.sent, div-one a.written, div-one a.wait)
+    rw (c.from.ensures, sent, written, wait, div-one a.sent, div-one a.written, div-one a.wait)
