@@ -9,7 +9,6 @@ use Rattle.answer.proofs.refusal.U8FromRefusal.from.Kinds as number-kinds
 use Rattle.answer.proofs.refusal.U8FromRefusal.from.Reads as number
 use Rattle.answer.proofs.refusal.RefusalFromAtrRefusal.from.Kinds as of-atr-kinds
 use Rattle.answer.proofs.refusal.RefusalFromAtrRefusal.from.Reads as of-atr
-use Rattle.answer.proofs.RefusalLaws.{refusal_one}
 
 pub refuse_record : Settles refuse-kinds.ps refuse-kinds.r refuse.Post (λ κs r s. s.0.now)
 refuse_record κs a x y s t f g = f ∙ sym g
@@ -21,4 +20,4 @@ pub number_answer : Settles number-kinds.ps number-kinds.r number.Post (λ κs r
 number_answer κs a x y s t f g = f ∙ sym g
 
 pub of_atr_answer : Settles of-atr-kinds.ps of-atr-kinds.r of-atr.Post (λ κs r s. r)
-of_atr_answer κs a x y s t f g = refusal_one x y (f ∙ sym g)
+of_atr_answer κs a x y s t f g = f.0 ∙ sym g.0

@@ -1,7 +1,7 @@
 // Why a call is refused.
 ghost use Rattle.std.specs.Prelude.{◌≡◌};
 ghost use Rattle.atr.specs.Answer.{refusal_number};
-ghost use Rattle.answer.specs.Refusal.{refusal_no};
+ghost use Rattle.answer.specs.Refusal.{refusal_no, refusal_of_atr};
 
 // By the number that C is given, 1 to 12: the table isn't sound, the shares or ceilings, no such slot, the slot's state, too
 // few bytes lent, the kind of event, the form of a command; then what the ATR reader refuses, named here again so that the
@@ -31,7 +31,7 @@ impl From<Refusal> for u8 {
 }
 
 impl From<atr::Refusal> for Refusal {
-    ghost from_gives = { λ of_atr refusal. refusal_no refusal ≡ refusal_number of_atr };
+    ghost from_gives = { λ of_atr refusal. (refusal ≡ refusal_of_atr of_atr) × (refusal_no refusal ≡ refusal_number of_atr) };
 
     fn from(of_atr: atr::Refusal) -> Refusal {
         match of_atr {

@@ -1,12 +1,12 @@
 -- Laws of the answer: the number of every refusal, and the bounds of every report. Assumes nothing.
-use mathlib.Core.Path.{◌≡◌, refl, ap, ◌∙◌}
+use mathlib.Core.Path.{◌≡◌, refl, sym, ap, ◌∙◌}
 use mathlib.Core.Bool.{Bool, true, false, cond, ◌&&◌, ◌||◌, not}
 use mathlib.Core.List.{List}
 use Rattle.std.specs.Prelude.{Ok, Err}
 use Prim.Native.Nat.{ℕ, ◌^◌, ◌≤◌, ◌<◌}
 use native.Mathlib.Omega.{arith}
 use lib.Dec.{ltb, leb, eqb}
-use borrow.Author.Tests.{ltb-true, ltb-false, leb-false, eqb-false}
+use borrow.Author.Tests.{ltb-true, ltb-false, leb-false, eqb-true, eqb-false}
 use Rattle.lent.proofs.Cases.{cond_case, or_left, or_right}
 use Rattle.atr.specs.declared.walk.Interface.{Interface}
 use Rattle.atr.specs.declared.report.Report.{Report}
@@ -102,8 +102,36 @@ refusal_number-ne0 Check = refl
 refusal_number-ne0 Protocol = refl
 refusal_number-ne0 Parameter = refl
 
-number_in_lem : (s : List ℕ) (r : Report) → number_in (answered (number_of s) r) ≡ number_of s
-number_in_lem s r = each_number s (λ (n : ℕ). number_in (answered n r) ≡ n) refl refl refl refl refl (λ _. refl)
+-- a refusal's number names it
+refusal_back : (n : ℕ) → 8 ≤ n → n ≤ 12 → refusal_number (refusal_with n) ≡ n
+refusal_back n l h =
+    cond_case P (eqb n 8) (λ e. sym (eqb-true n 8 e))
+    (λ e8. cond_case P (eqb n 9) (λ e. sym (eqb-true n 9 e))
+    (λ e9. cond_case P (eqb n 10) (λ e. sym (eqb-true n 10 e))
+    (λ e10. cond_case P (eqb n 11) (λ e. sym (eqb-true n 11 e))
+    (λ e11. omega (arith, l, h, eqb-false n 8 e8, eqb-false n 9 e9, eqb-false n 10 e10, eqb-false n 11 e11)))))
+  where
+    P : Refusal → Type 0
+    P e = refusal_number e ≡ n
+
+-- the number is that of the answer, for 0 and for every number that a refusal has
+number_in_lem : (n : ℕ) (r : Report) → (eqb n 0 ≡ false → (8 ≤ n) × (n ≤ 12)) → number_in (answered n r) ≡ n
+number_in_lem n r given =
+    cond_case (λ (x : Answer). number_in x ≡ n) (eqb n 0) (λ e. sym (eqb-true n 0 e)) (λ e. refusal_back n (given e).0 (given e).1)
+
+-- as it is for any interface bytes, those of no ATR among them
+pub number_in_terms : (a : Interface) (r : Report) → number_in (answered (terms_of a) r) ≡ terms_of a
+unfolding terms_of
+number_in_terms a r =
+    cond_case P (not_t1 a) {x = 11} (λ _. refl)
+    (λ _. cond_case P (parameter_refused a) {x = 12} {y = 0} (λ _. refl) (λ _. refl))
+  where
+    P : ℕ → Type 0
+    P n = number_in (answered n r) ≡ n
+
+-- and for any bytes
+number_in_read : (s : List ℕ) (r : Report) → number_in (answered (number_of s) r) ≡ number_of s
+number_in_read s r = each_number s (λ (n : ℕ). number_in (answered n r) ≡ n) refl refl refl refl refl (λ _. refl)
 
 report_in_lem : (n : ℕ) (r : Report) → report_in (answered n r) ≡ cond (eqb n 0) r zeros
 report_in_lem n r = cond_by (eqb n 0)
@@ -117,4 +145,4 @@ pub answer_whole : (s : List ℕ) (x : Answer) → x ≡ answer_of s → (x ≡ 
 unfolding answer_of values_of
 answer_whole s x e =
     let r : Report = report_of (interface_of s) (historical s) in
-    (e, (ap number_in e ∙ number_in_lem s r, ap report_in e ∙ report_in_lem (number_of s) r))
+    (e, (ap number_in e ∙ number_in_read s r, ap report_in e ∙ report_in_lem (number_of s) r))

@@ -68,7 +68,7 @@ fn is_speed_refused(ta1: u16, ta2: u16) -> bool
 fn is_size_refused(ta3: u16) -> bool
     ensures { result ≡ size_refused ta3 }
 {
-    matches!(ta3, 0x00..=0x0F | 0xFF)
+    matches!(byte(ta3), Some(0x00..=0x0F | 0xFF))
 }
 
 // TB3 absent; BWI above 4; CWI above 5; 2^CWI below N + 1.

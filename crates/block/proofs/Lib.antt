@@ -1,4 +1,5 @@
 -- Laws of the codec, for the proofs of the layers above.
+pub mod Xor
 pub mod LrcLaws
 pub mod CheckLaws
 pub mod EventLaws

@@ -1,7 +1,6 @@
 -- Each public function's promise settles its answer. Assumes nothing.
 use mathlib.Core.Path.{sym, ◌∙◌}
 use Rattle.lent.proofs.Settles.{Settles}
-use Rattle.entry.proofs.StateLaws.{names_one, state_one, decodes_one}
 use Rattle.entry.proofs.reading.line.Kinds as line-kinds
 use Rattle.entry.proofs.reading.line.Reads as line
 use Rattle.entry.proofs.reading.sent.Kinds as sent-kinds
@@ -36,7 +35,7 @@ pub slot_answer : Settles slot-kinds.ps slot-kinds.r slot.Post (λ κs r s. r)
 slot_answer κs a x y s t f g = f ∙ sym g
 
 pub state_answer : Settles state-kinds.ps state-kinds.r state.Post (λ κs r s. r)
-state_answer κs a x y s t f g = names_one _ _ _ f g
+state_answer κs a x y s t f g = f.0 ∙ sym g.0
 
 pub is_formed-answer : Settles is-formed-kinds.ps is-formed-kinds.r is-formed.Post (λ κs r s. r)
 is_formed-answer κs a x y s t f g = f ∙ sym g
@@ -45,10 +44,10 @@ pub bytes-answer : Settles bytes-kinds.ps bytes-kinds.r bytes.Post (λ κs r s. 
 bytes-answer κs a x y s t f g = f ∙ sym g
 
 pub decoded_answer : Settles decoded-kinds.ps decoded-kinds.r decoded.Post (λ κs r s. r)
-decoded_answer κs a x y s t f g = decodes_one _ _ _ f g
+decoded_answer κs a x y s t f g = f.0 ∙ sym g.0
 
 pub number_answer : Settles number-kinds.ps number-kinds.r number.Post (λ κs r s. r)
 number_answer κs a x y s t f g = f ∙ sym g
 
 pub of_slot_answer : Settles of-slot-kinds.ps of-slot-kinds.r of-slot.Post (λ κs r s. r)
-of_slot_answer κs a x y s t f g = state_one x y (f ∙ sym g)
+of_slot_answer κs a x y s t f g = f.0 ∙ sym g.0

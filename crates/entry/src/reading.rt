@@ -1,6 +1,6 @@
 // The slot that an entry's bytes are. Any bytes are read; a number that is not there is 0.
 ghost use Rattle.std.specs.Prelude.{◌≡◌};
-ghost use Rattle.entry.specs.State.{Names};
+ghost use Rattle.entry.specs.State.{Names, state_with};
 ghost use Rattle.entry.specs.Entry.{line_in, cut_in, last_in, turn_in, talk_in, sent_in, slot_in, state_in, formed};
 
 use super::layout;
@@ -67,7 +67,8 @@ fn turn(w: &[u8]) -> Turn
     }
 }
 
-// A command under way.
+// A command under way. In line, so that where the entry's length is known no read of it is tested again.
+#[inline(always)]
 #[tactic(auto, unfolding(crate::specs::Entry::talk_in))]
 pub fn talk(w: &[u8]) -> Talk
     ensures { result ≡ talk_in w.now }
@@ -82,24 +83,30 @@ pub fn talk(w: &[u8]) -> Talk
 
 // The state; None where its number is above 5.
 pub fn state(w: &[u8]) -> Option<State>
-    ensures { Names (state_in w.now) result }
+    ensures value { result ≡ state_with (state_in w.now) }
+    ensures names { Names (state_in w.now) result }
 {
     State::try_from(u8::get(w, layout::STATE)).ok()
 }
 
-// The slot, by its state.
+// The slot, by its state. An empty one first, and the line before the others are told apart: so the compiler makes a branch
+// of it and no jump by a table, which each empty slot would take in every call.
 #[tactic(auto, unfolding(crate::specs::Entry::slot_in))]
 pub fn slot(w: &[u8]) -> Slot
     ensures { result ≡ slot_in w.now }
 {
+    if let Some(State::Empty) = state(w) {
+        return Slot::Empty;
+    }
+    let line = line(w);
     match state(w) {
         Some(State::Greeting) => Slot::Greeting {
-            line: line(w),
+            line,
             sent: sent(w),
         },
-        Some(State::Ready) => Slot::Ready { line: line(w) },
+        Some(State::Ready) => Slot::Ready { line },
         Some(State::Busy) => Slot::Busy { talk: talk(w) },
-        Some(State::Done) => Slot::Done { line: line(w) },
+        Some(State::Done) => Slot::Done { line },
         Some(State::Ended) => Slot::Ended,
         Some(State::Empty) | None => Slot::Empty,
     }

@@ -1,7 +1,7 @@
 // The states of a slot, each a number in its entry.
 ghost use Rattle.std.specs.Prelude.{◌≡◌};
 ghost use Rattle.slot.specs.View.{slot_no};
-ghost use Rattle.entry.specs.State.{state_number, Decodes};
+ghost use Rattle.entry.specs.State.{state_number, state_of, decoded, Decodes};
 
 use slot::Slot;
 
@@ -22,7 +22,7 @@ pub struct UnknownState(pub u8);
 impl TryFrom<u8> for State {
     type Error = UnknownState;
 
-    ghost try_from_gives = { Decodes };
+    ghost try_from_gives = { λ number result. (result ≡ decoded number) × Decodes number result };
 
     fn try_from(number: u8) -> Result<Self, UnknownState> {
         match number {
@@ -47,7 +47,7 @@ impl From<State> for u8 {
 
 // The state of a slot.
 impl From<Slot> for State {
-    ghost from_gives = { λ slot state. state_number state ≡ slot_no slot };
+    ghost from_gives = { λ slot state. (state ≡ state_of slot) × (state_number state ≡ slot_no slot) };
 
     fn from(slot: Slot) -> State {
         match slot {

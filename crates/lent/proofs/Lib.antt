@@ -2,6 +2,7 @@
 pub mod Cases
 pub mod PlaceLaws
 pub mod NumberLaws
+pub mod WidthLaws
 pub mod FoldLaws
 pub mod Settles
 pub mod Settled

@@ -8,7 +8,7 @@ use native.Mathlib.Numerals.{add-one}
 use native.Mathlib.Omega.{arith}
 use lib.Dec.{leb}
 use lib.ListN.{length, take, drop, get_or, set, replicate, length-replicate, replicate-append-replicate, length-append, length-take, length-drop, take-append-drop, drop_of_length-le}
-use lib.Seq.{take_all, take-append-le, drop-append-le, drop-append-add, take_at, drop_at, drop-cons, get_or-drop, get_or-take, drop-drop, take-length, take-nil, length-take-le, append_snoc, set_split, set_out}
+use lib.Seq.{take_all, take-append-le, drop-append-le, drop-append-add, take_at, drop_at, drop-cons, get_or-drop, get_or-take, drop-drop, take-length, take-nil, length-take-le, paste, append_snoc, set_split, set_out}
 use borrow.Author.Tests.{le-leb, lt-leb, leb-true}
 use borrow.Rule.Slice.PartMut.{put_mid}
 use Rattle.lent.specs.Place.{within, window, splice}
@@ -252,6 +252,10 @@ fill_next t a n v h =
     ∙ ap (λ (j : ℕ). splice (splice t a (replicate n v)) (a + j) (v ∷ [])) (sym k)
     ∙ splice-append t a (replicate n v) (v ∷ []) (omega arith)
     ∙ ap (splice t a) (replicate_next n v ∙ ap (λ (j : ℕ). replicate j v) (sym (add-one n)))
+
+-- a copy of all of xs is a splice
+pub paste-splice : (t : List ℕ) (a : ℕ) (xs : List ℕ) → a + length xs ≤ length t → paste t a xs (length xs) ≡ splice t a xs
+paste-splice t a xs h = ap (λ (l : List ℕ). take a t ++ l ++ drop (a + length xs) t) (take-length xs) ∙ sym (splice_in t a xs h)
 
 -- a run that does not lie within t is not written
 pub fill_out : (t : List ℕ) (a n v : ℕ) → length t < a + n → splice t a (replicate n v) ≡ t

@@ -2,3 +2,4 @@
 pub mod Place
 pub mod Number
 pub mod Fold
+pub mod Laws

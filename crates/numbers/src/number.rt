@@ -3,7 +3,8 @@
 ghost use Rattle.std.specs.Prelude.{◌≡◌, ◌<◌, ℕ, List, [], ◌∷◌, get_or};
 ghost use Rattle.lent.specs.Place.{within, splice};
 ghost use Rattle.lent.specs.Number.{bytes_of, number_at};
-ghost use Rattle.numbers.specs.Laws.{NumberLaws, byte_laws, wide_laws};
+ghost use Rattle.lent.specs.Laws.{NumberLaws};
+ghost use Rattle.lent.proofs.WidthLaws.{byte_laws, wide_laws};
 
 // A number that stands as so many bytes.
 pub trait Number: Copy {

@@ -12,7 +12,7 @@ pub fn release(r: &mut [u8], i: usize)
     if region::is_holder(r, i) {
         for k in 0..r[HELD + i] {
             let c = r[LISTS + (i * CELLS + usize::from(k))];
-            r[OWNERS + usize::from(c)] = UNOWNED;
+            r[OWNERS + numbers::wide(c)] = UNOWNED;
         }
         r[HELD + i] = 0;
     }

@@ -27,7 +27,7 @@ fn store(r: &mut [u8], i: usize, c: usize, xs: &[u8])
     r[OWNERS + c] = i as u8;
     r[PLACES + c] = n;
     r[LENGTHS + c] = xs.len() as u8;
-    r[LISTS + (i * CELLS + usize::from(n))] = c as u8;
+    r[LISTS + (i * CELLS + numbers::wide(n))] = c as u8;
     r[HELD + i] = n + 1;
 }
 

@@ -1,11 +1,5 @@
 -- Each public function's promise settles its answer. Assumes nothing.
-use Prim.Native.Nat.{ℕ, ◌≤◌, ◌<◌}
-use mathlib.Core.Path.{◌≡◌, refl, sym, ap, ◌∙◌}
-use mathlib.Core.List.{List}
-use native.Mathlib.Omega.{arith}
-use lib.ListN.{length}
-use Rattle.std.specs.Prelude.{Option, Some, None, MatchOption}
-use Rattle.region.specs.Layout.{size}
+use mathlib.Core.Path.{sym, ◌∙◌}
 use Rattle.lent.proofs.Settles.{Settles}
 use Rattle.region.proofs.layout.is_holder.Kinds as is-holder-kinds
 use Rattle.region.proofs.layout.is_holder.Reads as is-holder
@@ -28,16 +22,8 @@ is_holder_answer κs a x y s t f g = f ∙ sym g
 pub is_piece-size-answer : Settles is-piece-size-kinds.ps is-piece-size-kinds.r is-piece-size.Post (λ κs r s. r)
 is_piece-size-answer κs a x y s t f g = f ∙ sym g
 
--- a list too short answers `None`, and any other that list
-same : (bs : List ℕ) (x y : Option (List ℕ)) → MatchOption x (length bs < size) (λ r. (size ≤ length bs) × (r ≡ bs))
-    → MatchOption y (length bs < size) (λ r. (size ≤ length bs) × (r ≡ bs)) → x ≡ y
-same bs None None f g = refl
-same bs None (Some r) f g = absurd (omega (arith, f, g.0))
-same bs (Some r) None f g = absurd (omega (arith, g, f.0))
-same bs (Some r) (Some q) f g = ap Some (f.1 ∙ sym g.1)
-
 pub region-of-answer : Settles region-of-kinds.ps region-of-kinds.r region-of.Post (λ κs r s. r)
-region-of-answer κs a x y s t f g = same _ x y f g
+region-of-answer κs a x y s t f g = f.0 ∙ sym g.0
 
 pub acceptable_answer : Settles acceptable-kinds.ps acceptable-kinds.r acceptable.Post (λ κs r s. r)
 acceptable_answer κs a x y s t f g = f ∙ sym g

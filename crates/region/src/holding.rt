@@ -13,7 +13,7 @@ fn total(bytes: &[u8]) -> usize
     requires { length bytes.now ≤ 256 }
     ensures { result ≡ sum bytes.now }
 {
-    bytes.iter().map(|&n| usize::from(n)).sum()
+    bytes.iter().map(|&n| numbers::wide(n)).sum()
 }
 
 impl Region<'_> {

@@ -1,6 +1,7 @@
 // The layout of the region, as in specs/Layout and docs/LAYOUT.md. Each part starts right behind the one before.
 ghost use Rattle.std.specs.Prelude.{◌≡◌, ◌≤◌, ◌<◌, length, MatchOption};
 ghost use Rattle.region.specs.Layout.{size};
+ghost use Rattle.region.specs.Region.{region_of};
 ghost use Rattle.region.specs.Sound.{piece_size};
 ghost use Rattle.region.specs.Holding.{inside};
 
@@ -52,7 +53,8 @@ impl<'a> Model for Region<'a> {
 impl<'a> Region<'a> {
     // These bytes, where they are enough for a region.
     pub fn of(bytes: &'a [u8]) -> Option<Region<'a>>
-        ensures { MatchOption result (length bytes.now < size) (λ r. (size ≤ length bytes.now) × (r ≡ bytes.now)) }
+        ensures value { result ≡ region_of bytes.now }
+        ensures shows { MatchOption result (length bytes.now < size) (λ r. (size ≤ length bytes.now) × (r ≡ bytes.now)) }
     {
         if bytes.len() < SIZE {
             return None;

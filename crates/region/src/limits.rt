@@ -10,11 +10,13 @@ use numbers::Number;
 fn in_order(share: u8, ceiling: u8) -> bool
     ensures { result ≡ (leb share ceiling && leb ceiling cells) }
 {
-    share <= ceiling && usize::from(ceiling) <= CELLS
+    share <= ceiling && numbers::wide(ceiling) <= CELLS
 }
 
 // Whether a pool opens with these shares and ceilings: so for all holders, and the shares add to no more than the cells.
 // A share or a ceiling that is not there counts as 0. A loop and no chain, since it tests and adds in one walk.
+// Not in line: the soundness test around it needs the registers.
+#[inline(never)]
 pub fn acceptable(shares: &[u8], ceilings: &[u8]) -> bool
     ensures { result ≡ fit (pool_of shares.now ceilings.now) }
 {
@@ -24,7 +26,7 @@ pub fn acceptable(shares: &[u8], ceilings: &[u8]) -> bool
         if !in_order(share, u8::get(ceilings, i)) {
             return false;
         }
-        total += usize::from(share);
+        total += numbers::wide(share);
     }
     total <= CELLS
 }

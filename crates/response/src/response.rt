@@ -49,7 +49,7 @@ impl<'a> Pieces<'a> {
         ensures { result.now ≡ bytes_in self.now.region (listed self.now.region self.now.i k) }
     {
         let c = self.region.bytes[LISTS + (self.i * CELLS + usize::from(k))];
-        bytes_of(&self.region, usize::from(c))
+        bytes_of(&self.region, numbers::wide(c))
     }
 
     // How many there are.

@@ -18,7 +18,7 @@ fn is_piece(r: &Region<'_>, i: usize, k: u8, c: usize) -> bool
     c < CELLS
         && usize::from(r.bytes[OWNERS + c]) == i
         && r.bytes[PLACES + c] == k
-        && region::is_piece_size(usize::from(r.bytes[LENGTHS + c]))
+        && region::is_piece_size(numbers::wide(r.bytes[LENGTHS + c]))
 }
 
 // Whether the k-th cell of holder i's list is its piece k. That i is a holder's is asked, here and below: `are_lists` counts no
@@ -29,15 +29,21 @@ fn is_listed(r: &Region<'_>, i: usize, k: u8) -> bool
     ensures { result ≡ listed_well r.now i k }
 {
     let c = r.bytes[LISTS + (i * CELLS + usize::from(k))];
-    is_piece(r, i, k, usize::from(c))
+    is_piece(r, i, k, numbers::wide(c))
 }
 
-// Whether holder i's list names its pieces in order.
+// Whether holder i's list names its pieces in order. A loop and no chain, since it runs for each cell that is held,
+// in every call, and the compiler makes shorter work of it.
 fn is_list(r: &Region<'_>, i: usize) -> bool
     requires { i < holders }
     ensures { result ≡ list_well r.now i }
 {
-    (0..r.bytes[HELD + i]).all(|k| is_listed(r, i, k))
+    for k in 0..r.bytes[HELD + i] {
+        if !is_listed(r, i, k) {
+            return false;
+        }
+    }
+    true
 }
 
 // Whether all holders' lists do.

@@ -32,13 +32,17 @@ fn are_slots_sound(t: &[u8]) -> bool
     (0..region::layout::HOLDERS).all(|i| is_slot_sound(t, i))
 }
 
-// Whether the table is there, and sound. Takes any bytes.
+// Whether the table is there, and sound. Takes any bytes. Early returns and no chain: behind them the compiler knows the
+// table's length, and no read of an entry tests it again.
 #[tactic(auto, unfolding(crate::specs::Sound::sound))]
 pub fn is_sound(t: &[u8]) -> bool
     ensures { result ≡ rules.sound t.now }
 {
-    layout::TABLE <= t.len()
-        && is_headed(t)
-        && sound::is_sound(places::pool(t))
-        && are_slots_sound(t)
+    if t.len() < layout::TABLE || !is_headed(t) {
+        return false;
+    }
+    if !sound::is_sound(places::pool(t)) {
+        return false;
+    }
+    are_slots_sound(t)
 }

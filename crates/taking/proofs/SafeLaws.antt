@@ -1,4 +1,4 @@
--- What the private functions ask of a talk's numbers is kept when r is flipped. Assumes nothing.
+-- What a `SafeTalk` carries of a talk's numbers is kept when r is flipped. Assumes nothing.
 use mathlib.Core.Path.{◌≡◌, sym, subst}
 use native.Mathlib.Omega.{arith}
 use Rattle.slot.specs.declared.parts.Talk.{Talk}

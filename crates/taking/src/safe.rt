@@ -1,4 +1,4 @@
-// A talk whose numbers are in range, so that nothing overflows. It is built where the ranges are tested, and anew where r is
+// A talk whose numbers let nothing overflow. It is built where the ranges are tested, and anew where r is
 // flipped. `turn` has a like one: a type's methods stand in the type's own crate.
 ghost use Rattle.std.specs.Prelude.{◌≡◌, true, false, MatchOption};
 ghost use Rattle.slot.specs.Fit.{in_range};

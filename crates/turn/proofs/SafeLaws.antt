@@ -1,4 +1,4 @@
--- What the private functions ask of a talk's numbers is kept when the next I-block is cut. Assumes nothing.
+-- What a `SafeTalk` carries of a talk's numbers is kept when the next I-block is cut. Assumes nothing.
 use Prim.Native.Nat.{ℕ}
 use mathlib.Core.Path.{◌≡◌, sym, subst}
 use native.Mathlib.Omega.{arith}

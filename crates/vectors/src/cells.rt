@@ -5,8 +5,8 @@ use std::io;
 // Appends n bytes that count up from v for holder i.
 pub(crate) fn append(r: &mut [u8], i: usize, n: u8, v: u8) -> bool {
     let mut piece = [0u8; 256];
-    for (b, j) in piece.iter_mut().zip(0..=255u8) {
-        *b = v.wrapping_add(j);
+    for (j, b) in piece.iter_mut().enumerate() {
+        *b = v.wrapping_add((j % 256) as u8);
     }
     pool::append(r, i, &piece[..usize::from(n)])
 }

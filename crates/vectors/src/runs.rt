@@ -1,6 +1,6 @@
 // Long runs on the pool, each folded into a few figures: appends and releases mixed, regions with one byte damaged, and
 // calls on bytes that are no sound region.
-ghost use Rattle.std.specs.Prelude.{◌≡◌, ◌≤◌};
+ghost use Rattle.std.specs.Prelude.{◌≤◌, ◌<◌};
 
 use super::figure::Figure;
 use super::print::Hex;
@@ -30,7 +30,9 @@ pub(crate) fn three_if_sound(r: &[u8]) -> usize
 }
 
 // One call: what it answers, whether the region is sound, and what then is held and free.
-fn call(r: &mut [u8], x: u16) -> usize {
+fn call(r: &mut [u8], x: u16) -> usize
+    ensures { result < 1000000 }
+{
     let i = usize::from(x / 16 % 9);
     let answer = if takes(r, i, x) { 1 } else { 2 };
     answer

@@ -66,16 +66,16 @@ struct Call<'a> {
 // What a script is played on: the slot with its pool, the command last taken, and the figure for the calls since the last
 // name.
 #[derive(Drop)]
-struct Player {
-    seat: Seat,
+struct Player<'a> {
+    seat: Seat<'a>,
     kept: [u8; 261],
     figure: Figure,
 }
 
-impl Player {
-    fn new() -> Player {
+impl<'a> Player<'a> {
+    fn new(region: &'a mut [u8]) -> Player<'a> {
         Player {
-            seat: Seat::new(),
+            seat: Seat::new(region),
             kept: [0; 261],
             figure: Figure::new(),
         }
@@ -149,7 +149,8 @@ fn folded(figure: Figure, numbers: &[usize; 9]) -> Figure {
 
 pub(crate) fn played(rt: &impl Print, script: &[u8]) -> io::Result<()> {
     println!(rt; "sessions")?;
-    let mut player = Player::new();
+    let mut region = [0xAA; 25464];
+    let mut player = Player::new(&mut region);
     let mut rest = script;
     // The last line may end before its four bytes do: what is missing of them is 0. A first byte of 0 names a run, and is no op:
     // 128 is a call with no name.

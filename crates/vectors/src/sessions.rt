@@ -17,17 +17,17 @@ fn eight(bytes: &[u8]) -> [u8; 8] {
     eight
 }
 
-// A pool's region, and slot 0.
+// A pool's region, lent so that it stands on the stack once, and slot 0.
 #[derive(Drop)]
-pub(crate) struct Seat {
-    region: [u8; 25464],
+pub(crate) struct Seat<'a> {
+    region: &'a mut [u8],
     slot: Slot,
 }
 
-impl Seat {
-    pub(crate) fn new() -> Seat {
+impl<'a> Seat<'a> {
+    pub(crate) fn new(region: &'a mut [u8]) -> Seat<'a> {
         Seat {
-            region: [0xAA; 25464],
+            region,
             slot: Slot::Empty,
         }
     }
@@ -74,13 +74,7 @@ impl Seat {
         let next = match self.slot {
             Slot::Greeting { .. } | Slot::Busy { .. } if kind > 2 => return Err(Refusal::Kind),
             Slot::Greeting { line, sent } => terminal::greet(line, sent, u64::from(kind), bytes),
-            Slot::Busy { talk } => terminal::event(
-                &mut self.region,
-                0,
-                talk,
-                u64::from(kind),
-                bytes,
-            ),
+            Slot::Busy { talk } => terminal::event(self.region, 0, talk, u64::from(kind), bytes),
             _ => return Err(Refusal::State),
         };
         Ok(self.moved(0, next))
@@ -88,8 +82,8 @@ impl Seat {
 
     // Collects into all of the output: refused if it is too short, and the slot is still done.
     fn collected(&mut self, line: Line, out: &mut [u8]) -> Result<Step, Refusal> {
-        let length = response::response_length(&self.region, 0);
-        let next = terminal::collect(&mut self.region, 0, line, out);
+        let length = response::response_length(self.region, 0);
+        let next = terminal::collect(self.region, 0, line, out);
         match next.slot {
             Slot::Done { .. } => Err(Refusal::Lent),
             _ => Ok(self.moved(length, next)),
@@ -112,7 +106,7 @@ impl Seat {
         if let Slot::Empty = self.slot {
             return Err(Refusal::State);
         }
-        let next = terminal::remove(&mut self.region, 0);
+        let next = terminal::remove(self.region, 0);
         Ok(self.moved(0, next))
     }
 
@@ -120,7 +114,7 @@ impl Seat {
     pub(crate) fn open(&mut self, limits: &[u8]) -> Result<Step, Refusal> {
         let shares = eight(limits);
         let ceilings = eight(lent::part(limits, 8, 8));
-        if !pool::lay_out(&mut self.region, &shares, &ceilings) {
+        if !pool::lay_out(self.region, &shares, &ceilings) {
             return Err(Refusal::Limits);
         }
         self.slot = Slot::Empty;
@@ -129,13 +123,13 @@ impl Seat {
 
     // Appends for another holder.
     pub(crate) fn append(&mut self, i: u8, piece: &[u8]) -> Step {
-        pool::append(&mut self.region, usize::from(i), piece);
+        pool::append(self.region, usize::from(i), piece);
         self.still()
     }
 
     // Releases another holder.
     pub(crate) fn release(&mut self, i: u8) -> Step {
-        pool::release(&mut self.region, usize::from(i));
+        pool::release(self.region, usize::from(i));
         self.still()
     }
 
@@ -148,9 +142,9 @@ impl Seat {
             next.sent as usize,
             length,
             next.wait as usize,
-            usize::from(region::held(&self.region, 0)),
-            usize::from(region::free(&self.region)),
-            super::runs::three_if_sound(&self.region),
+            usize::from(region::held(self.region, 0)),
+            usize::from(region::free(self.region)),
+            super::runs::three_if_sound(self.region),
         ]
     }
 }

@@ -10,6 +10,6 @@ pub fn is_command(bytes: &[u8]) -> bool
     ensures { result ≡ good_form bytes.now }
 {
     let n = bytes.len();
-    let l = usize::from(u8::get(bytes, 4));
+    let l = numbers::wide(u8::get(bytes, 4));
     n == 4 || n == 5 || (l >= 1 && (n == 5 + l || n == 6 + l))
 }

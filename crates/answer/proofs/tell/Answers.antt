@@ -17,7 +17,7 @@ unfolding told_of
 returns c =
     let a = c.args in
     let n = a.n in
-    let f = c.front-front.ensures ∙ ap (λ (k : ℕ). front_bytes 0 k n.ending n.sent a.written n.wait) c.from.ensures in
+    let f = c.front-front.ensures ∙ ap (λ (k : ℕ). front_bytes 0 k n.ending n.sent a.written n.wait) c.from.ensures.1 in
     let one = c.put.ensures.t_after ∙ ap (splice a.rec.now 0) f in
     let two = c.put-2.ensures.t_after ∙ ap₂ (λ (l b : List ℕ). splice l 16 b) one c.report.ensures in
     c.fill.ensures.t_after

@@ -38,7 +38,7 @@ loop-i-preserved c =
     let e : limit K l.i ≡ true = told a.shares.now a.ceilings.now l.i c.in_order.ensures c.get-share.ensures c.get.ensures ∙ c.if-not-in_order.false in (
       omega arith,
       all_next (limit K) l.i ∙ rw (l.invariant.1, e),
-      ap₂ ◌+◌ l.invariant.2 (c.from-total.ensures ∙ c.get-share.ensures) ∙ sym (sum_next K.share l.i),
+      ap₂ ◌+◌ l.invariant.2 (c.wide-total.ensures.0 ∙ c.get-share.ensures) ∙ sym (sum_next K.share l.i),
     )
 
 pub returns : goal.returns

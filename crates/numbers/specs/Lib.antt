@@ -1,2 +1,0 @@
--- What numbers of any width keep.
-pub mod Laws
