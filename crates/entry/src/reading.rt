@@ -90,7 +90,7 @@ pub fn state(w: &[u8]) -> Option<State>
 }
 
 // The slot, by its state. An empty one first, and the line before the others are told apart: so the compiler makes a branch
-// of it and no jump by a table, which each empty slot would take in every call.
+// of it and no jump by a table, which each empty slot would take in every call but open.
 #[tactic(auto, unfolding(crate::specs::Entry::slot_in))]
 pub fn slot(w: &[u8]) -> Slot
     ensures { result ≡ slot_in w.now }

@@ -100,7 +100,7 @@ impl Number for u32 {
     }
 }
 
-// A byte as a wider number, as From gives it too; it stays for its promise.
+// A byte as a wider number, as From gives it too.
 pub fn wide(x: u8) -> usize
     ensures { (result ≡ x) × (result < 256) }
 {

@@ -33,7 +33,7 @@ fn is_listed(r: &Region<'_>, i: usize, k: u8) -> bool
 }
 
 // Whether holder i's list names its pieces in order. A loop and no chain, since it runs for each cell that is held,
-// in every call, and the compiler makes shorter work of it.
+// in every call but open, and the compiler makes shorter work of it.
 fn is_list(r: &Region<'_>, i: usize) -> bool
     requires { i < holders }
     ensures { result ≡ list_well r.now i }
